@@ -1,0 +1,5 @@
+mod Examples
+mod NameAdded
+mod NameFound
+mod OrJoinsBits
+mod WordsActAsSets

@@ -1,0 +1,74 @@
+-- A name is found at its place among names of which none is there twice.
+use Rattle.std.proofs.Common.{◌≡◌, ℕ, ◌<◌, ◌↔◌, Bool, true, false, true≢false, refl, sym, ap, ◌∙◌, arith, List, [], ◌∷◌, length, get_or, Option, Some, None, IsNone, Contains, slice_get, Vec, Global}
+use Rattle.std.specs.List.{position, position_or_len}
+use Rattle.std.specs.Str.{bytes_eq}
+use Rattle.std.proofs.lemmas.Bool.{lt-ltb, false_from_ne_true}
+use Rattle.std.proofs.lemmas.List.{length-map}
+use Rattle.std.proofs.lemmas.List.Quantifiers.{position-Some}
+use Rattle.std.proofs.lemmas.List.Sums.{position_or_len_is}
+use Rattle.std.proofs.lemmas.Option.{none-some, slice_get-get_or, slice_get_within, get_or_from_slice_get}
+use Rattle.std.proofs.lemmas.Slice.Eq.{bytes_eq-Decides}
+use Rattle.ck_base.specs.Numbered.{texts, AreNumbered}
+
+-- the first vector that passes stands where its bytes do
+pub position_or_len-texts : (test : List ℕ → Bool) (vectors : List (Vec ℕ Global))
+    → position_or_len (λ v. test v.items) vectors ≡ position_or_len test (texts vectors)
+position_or_len-texts test [] = refl
+position_or_len-texts test (v ∷ vs) = rw (position_or_len-texts test vs)
+
+pub position-texts : (test : List ℕ → Bool) (vectors : List (Vec ℕ Global))
+    → position (λ v. test v.items) vectors ≡ position test (texts vectors)
+position-texts test vs = rw (position_or_len-texts test vs, length-map vs (λ v. v.items))
+
+module _ (names : List (List ℕ)) (name : List ℕ) where
+  -- to be in the list is to have a place in it
+  pub place_of : Contains names name → (n : ℕ) × (slice_get names n ≡ Some name)
+  place_of (n, within, is) = (n, slice_get-get_or names n name within ∙ ap Some is)
+
+  pub contained_at : (n : ℕ) → slice_get names n ≡ Some name → Contains names name
+  contained_at n there = (n, slice_get_within names n name there, get_or_from_slice_get names n name name there)
+
+  -- where the bytes pass, the name is
+  pub there_where_equal : (n : ℕ) → n < length names → bytes_eq name (get_or names n []) ≡ true → slice_get names n ≡ Some name
+  there_where_equal n within equal =
+      slice_get-get_or names n [] within ∙ ap Some (sym ((bytes_eq-Decides name (get_or names n [])).0 equal))
+
+  pub there_where_found : (n : ℕ) → position (bytes_eq name) names ≡ Some n → slice_get names n ≡ Some name
+  there_where_found n found =
+      let first = position-Some (bytes_eq name) names n [] found in
+      there_where_equal n first.0 first.1
+
+  -- and it is found there, since no earlier place has it
+  pub no_earlier : AreNumbered names → (n k : ℕ) → slice_get names n ≡ Some name → k < n → bytes_eq name (get_or names k []) ≡ false
+  no_earlier numbered n k there earlier = false_from_ne_true _ (λ equal.
+      let within = slice_get_within names n name there in
+      let same = numbered.apart k n name (there_where_equal k (omega arith) equal) there in
+      omega arith)
+
+  pub found_where_there : AreNumbered names → (n : ℕ) → slice_get names n ≡ Some name → position (bytes_eq name) names ≡ Some n
+  found_where_there numbered n there =
+      let within = slice_get_within names n name there in
+      let is = get_or_from_slice_get names n name [] there in
+      let here : bytes_eq name (get_or names n []) ≡ true = rw is ((bytes_eq-Decides name name).1 refl) in
+      let earlier : (k : ℕ) → k < n → bytes_eq name (get_or names k []) ≡ false = λ k lt. no_earlier numbered n k there lt in
+      let place = position_or_len_is (bytes_eq name) names n [] (omega arith) earlier (λ lt. here) in
+      rw (place, lt-ltb n (length names) within)
+
+-- what a search for a name answers
+pub record Finds (names : List (List ℕ)) (name : List ℕ) (answer : Option ℕ) : Type 0 where
+  pub found : (n : ℕ) → (answer ≡ Some n) ↔ (slice_get names n ≡ Some name)
+  pub absent : IsNone answer ↔ (Contains names name → ⊥)
+
+pub first_place_finds : (vectors : List (Vec ℕ Global)) (name : List ℕ) (answer : Option ℕ) → AreNumbered (texts vectors)
+    → answer ≡ position (λ v. bytes_eq name v.items) vectors → Finds (texts vectors) name answer
+first_place_finds vectors name answer numbered is = record { found = found; absent = absent answer found }
+  where
+    found : (n : ℕ) → (answer ≡ Some n) ↔ (slice_get (texts vectors) n ≡ Some name)
+    found n =
+        let place = is ∙ position-texts (bytes_eq name) vectors in
+        (λ at. there_where_found (texts vectors) name n (sym place ∙ at), λ there. place ∙ found_where_there (texts vectors) name numbered n there)
+
+    absent : (answer : Option ℕ) → ((n : ℕ) → (answer ≡ Some n) ↔ (slice_get (texts vectors) n ≡ Some name))
+        → IsNone answer ↔ (Contains (texts vectors) name → ⊥)
+    absent None found = (λ none has. let at = place_of (texts vectors) name has in none-some at.0 ((found at.0).1 at.1), λ none. refl)
+    absent (Some n) found = (λ none. absurd (true≢false none), λ none. absurd (none (contained_at (texts vectors) name n ((found n).0 refl))))

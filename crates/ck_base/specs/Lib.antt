@@ -1,0 +1,4 @@
+pub mod BitSet
+pub mod Lines
+pub mod Numbered
+pub mod Words

@@ -1,0 +1,27 @@
+//! What every other crate stands on: names and their numbers, sets of numbers, refusals and statuses.
+//!
+//! | what | file |
+//! |---|---|
+//! | want of memory, faults of a specification | `src/fault.rt` |
+//! | a name; names with numbers | `src/name.rt`, `src/names.rt`; `specs/Numbered.antt` |
+//! | a set of the numbers below a size; its words | `src/bits.rt`; `specs/BitSet.antt`; `specs/Words.antt` |
+//! | each refusal with its line and status | `src/refusal.rt`, `src/status.rt`; `specs/Lines.antt` |
+//! | a name has one number | `proofs/NameFound.antt`, `proofs/NameAdded.antt` |
+//! | the words act as the set | `proofs/WordsActAsSets.antt`, `proofs/OrJoinsBits.antt` |
+#![tactic(auto)]
+
+mod bits;
+mod fault;
+mod name;
+mod names;
+mod refusal;
+mod status;
+#[cfg(test)]
+mod tests;
+
+pub use bits::Bits;
+pub use fault::{Kind, NoMemory, SpecFault};
+pub use name::Name;
+pub use names::Names;
+pub use refusal::{MEMORY_LINE, READ_LINE, Refusal, USAGE_LINE, WRITE_LINE};
+pub use status::Status;

@@ -1,0 +1,75 @@
+ghost use Rattle.std.specs.Prelude.{◌≡◌, ℕ, ◌+◌, ◌^◌, ◌<◌, ◌↔◌, [], length, IfOk, OnErr, IsNone, Contains, slice_get};
+ghost use Rattle.ck_base.specs.Numbered.{Interns};
+
+use crate::fault::NoMemory;
+use indexmap::IndexSet;
+use std::alloc::Global;
+use std::marker::Model;
+
+/// Names with numbers, from 0 in the order in which they were first met; no name is there twice.
+#[derive(Drop)]
+pub struct Names {
+    alloc: Global,
+    names: IndexSet<Vec<u8>>,
+}
+
+impl Model for Names {
+    ghost use Rattle.std.specs.Prelude.{ℕ, List};
+    ghost use Rattle.ck_base.specs.Numbered.{texts, AreNumbered};
+
+    ghost Value = { List (List ℕ) };
+
+    ghost view = { λ names. texts names.names.keys };
+
+    ghost invariant = { λ names. AreNumbered (texts names.names.keys) };
+}
+
+impl Names {
+    /// No names yet. It takes no memory.
+    pub fn new(alloc: Global) -> Names
+        ensures { result ≡ [] }
+    {
+        Names {
+            alloc,
+            names: IndexSet::new(alloc),
+        }
+    }
+
+    /// The number of the name: its old one, else the next.
+    pub fn intern(&mut self, name: &[u8]) -> Result<u32, NoMemory>
+        requires { length self.old + 1 < 2 ^ 32 }
+        ensures number { IfOk result (λ n. Interns self.old self.new name.now n) }
+        ensures err { OnErr result (self.new ≡ self.old) }
+    {
+        if let Some(known) = self.find(name) {
+            return Ok(known);
+        }
+        let owned = Vec::from_slice(self.alloc, name)?;
+        let (index, _) = self.names.insert_full(owned)?;
+        Ok(index as u32)
+    }
+
+    /// The number of the name, where it is there.
+    pub fn find(&self, name: &[u8]) -> Option<u32>
+        ensures found { (n : ℕ) → (result ≡ Some n) ↔ (slice_get self.now n ≡ Some name.now) }
+        ensures absent { IsNone result ↔ (Contains self.now name.now → ⊥) }
+    {
+        let index = self.names.get_index_of(name)?;
+        Some(index as u32)
+    }
+
+    /// The name with this number.
+    pub fn text_of(&self, n: u32) -> &[u8]
+        requires { n < length self.now }
+        ensures { slice_get self.now n ≡ Some result.now }
+    {
+        self.names[n as usize].as_slice()
+    }
+
+    /// How many names there are.
+    pub fn len(&self) -> u32
+        ensures { result ≡ length self.now }
+    {
+        self.names.len() as u32
+    }
+}
