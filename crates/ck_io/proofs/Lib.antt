@@ -1,0 +1,3 @@
+mod AddedFile
+mod Front
+mod Pieces

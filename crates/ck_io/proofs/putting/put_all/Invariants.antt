@@ -1,0 +1,12 @@
+use Rattle.std.proofs.Common.{◌-◌, ◌≤◌, length, take}
+use Rattle.ck_io.specs.Contents.{Appends}
+use Rattle.ck_io.proofs.putting.put_all.Given as goal
+
+abbrev pub invariant-loop-written : goal.invariant-loop-written
+invariant-loop-written g l =
+    (l.written ≤ length l.bytes)
+    × Appends (g.O.Sink.written l.initial.sink) (g.O.Sink.written l.sink) (take l.written l.bytes)
+    × (g.O.Sink.faults l.initial.sink ≤ g.O.Sink.faults l.sink)
+
+abbrev pub decreases-loop-written : goal.decreases-loop-written
+decreases-loop-written g l = length l.bytes - l.written

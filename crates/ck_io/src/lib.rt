@@ -1,0 +1,37 @@
+//! The outside: bytes read from named files, and bytes put to a sink.
+//!
+//! | question | file |
+//! |---|---|
+//! | what a read and a put promise | `src/files.rt`, `src/sink.rt`; `specs/Contents.antt`, `specs/Faults.antt` |
+//! | all bytes of a file, all bytes to a sink, and why not | `src/loading.rt`, `src/putting.rt`, `src/fault.rt` |
+//! | files and sinks in memory | `src/mem_files.rt`, `src/never_fails.rt`, `src/mem_sink.rt`; `specs/MemFiles.antt`, `specs/NeverFails.antt`, `specs/MemSink.antt` |
+//! | what these stand on: named files, calls that are to fail | `src/folder.rt`, `src/calls.rt`; `specs/Folder.antt` |
+//! | the disk, and the writers of std | `src/disk_files.rt`, `src/std_sink.rt` |
+#![tactic(auto)]
+
+mod calls;
+mod disk_files;
+mod fault;
+mod files;
+mod folder;
+mod loading;
+mod mem_files;
+mod mem_sink;
+mod never_fails;
+mod putting;
+mod sink;
+mod std_sink;
+
+pub use disk_files::DiskFiles;
+pub use fault::{LoadError, WriteFault};
+pub use files::{Failed, Files};
+pub use loading::load;
+pub use mem_files::MemFiles;
+pub use mem_sink::MemSink;
+pub use never_fails::NeverFails;
+pub use putting::put_all;
+pub use sink::Sink;
+pub use std_sink::StdSink;
+
+#[cfg(test)]
+mod tests;

@@ -1,0 +1,58 @@
+ghost use Rattle.std.specs.Prelude.{◌≡◌, ℕ, List, [], OnOk, OnErr, Some};
+ghost use Rattle.ck_io.specs.Contents.{AddsFile};
+ghost use Rattle.ck_io.specs.NeverFails.{contents_of};
+
+use crate::files::{Failed, Files};
+use crate::folder::{Folder, copy_part};
+use ck_base::NoMemory;
+use std::alloc::Global;
+use std::marker::Model;
+
+/// Files in memory of which no read fails. A name that was never added has empty contents.
+#[derive(Drop)]
+pub struct NeverFails {
+    folder: Folder,
+}
+
+impl Model for NeverFails {
+    ghost use Rattle.std.specs.Prelude.{ℕ, List};
+
+    ghost Value = { List (List ℕ × List ℕ) };
+
+    ghost view = { λ files. files.folder };
+}
+
+impl NeverFails {
+    /// No files yet.
+    pub fn new(alloc: Global) -> NeverFails
+        ensures { (name : List ℕ) → contents_of result name ≡ Some [] }
+    {
+        NeverFails {
+            folder: Folder::new(alloc),
+        }
+    }
+
+    /// Gives the name these bytes, in place of any that it had.
+    pub fn add(&mut self, name: &str, bytes: &[u8]) -> Result<(), NoMemory>
+        ensures added { OnOk result
+            (AddsFile (contents_of self.old) (contents_of self.new) name.now bytes.now) }
+        ensures err { OnErr result (self.new ≡ self.old) }
+    {
+        self.folder.put(name, bytes)?;
+        Ok(())
+    }
+}
+
+impl Files for NeverFails {
+    ghost contents = { contents_of };
+
+    // A failed read would have to raise the count, so none fails.
+    ghost faults = { λ _ _. 0 };
+
+    fn read_at(&mut self, name: &str, at: u64, into: &mut [u8]) -> Result<usize, Failed> {
+        match self.folder.place_of(name) {
+            Some(place) => Ok(copy_part(self.folder.bytes_at(place), at, into)),
+            None => Ok(0),
+        }
+    }
+}
