@@ -1,0 +1,141 @@
+-- Languages, positions and places, tried on cases that are worked by hand.
+use Rattle.std.proofs.Common.{◌≡◌, ℕ, ◌^◌, List, [], ◌∷◌, ◌++◌, refl, subst, arith, inl, inr}
+use Rattle.std.specs.Prelude.{codes}
+use Rattle.rex_model.specs.Language.{Re, bytes, class, sequence, star, plus, optional, IsIn, no_more, one_more, Language}
+use Rattle.rex_model.specs.Place.{line_at, column_at}
+use Rattle.rex_model.specs.Positions.{position_count, First, Last, Follow}
+use Rattle.rex_model.proofs.EmptyWord.{both_empty, empty_of}
+use Rattle.rex_model.proofs.WordsToPositions.{first_round}
+
+-- the class of one letter a: bit 97 of four words
+abbrev only_a : List ℕ
+only_a = 0 ∷ 2 ^ 33 ∷ 0 ∷ 0 ∷ []
+
+-- the class of one letter b
+abbrev only_b : List ℕ
+only_b = 0 ∷ 2 ^ 34 ∷ 0 ∷ 0 ∷ []
+
+-- a is in the class of a
+a_is_in : IsIn only_a 97
+a_is_in = (omega arith, λ e. cc)
+
+-- b isn't in the class of a
+b_is_not_in : IsIn only_a 98 → ⊥
+b_is_not_in h = h.1 refl
+
+-- no number past the bytes is in a class
+past_bytes : IsIn only_a 353 → ⊥
+past_bytes h = omega arith
+
+-- one a, then any number of b
+abbrev a_then_bs : Re
+a_then_bs = sequence (class only_a) (star (class only_b))
+
+-- "ab" is one of its words
+ab_is_a_word : Language a_then_bs (codes "ab")
+ab_is_a_word = (
+  codes "a",
+  codes "b",
+  refl,
+  (97, refl, a_is_in),
+  one_more (codes "b") [] (98, refl, (omega arith, λ e. cc)) no_more,
+)
+
+-- so is "a"
+a_is_a_word : Language a_then_bs (codes "a")
+a_is_a_word = (codes "a", [], refl, (97, refl, a_is_in), no_more)
+
+-- the empty word isn't
+empty_is_no_word : Language a_then_bs [] → ⊥
+empty_is_no_word h = let e = empty_of a_then_bs h in cc
+
+-- "abab" is "ab" twice
+twice_ab : Language (star (bytes (codes "ab"))) (codes "abab")
+twice_ab = one_more (codes "ab") (codes "ab") refl (one_more (codes "ab") [] refl no_more)
+
+-- "aba" isn't any number of "ab"
+aba_is_no_word : Language (star (bytes (codes "ab"))) (codes "aba") → ⊥
+aba_is_no_word h =
+    let (u, v, is, one, more) = first_round (Language (bytes (codes "ab"))) _ 97 (codes "ba") h refl in
+    let b : u ≡ codes "b" = cc in
+    let rest : v ≡ codes "a" = (let e = subst (λ x. codes "ba" ≡ x ++ v) b is in cc) in
+    let (x, y, is2, two, more2) = first_round (Language (bytes (codes "ab"))) v 97 [] more rest in
+    let e = (both_empty x y is2).0 in
+    cc
+
+-- any number of words may be none
+star_empty : Language (star (class only_a)) []
+star_empty = no_more
+
+-- an optional word may be missing
+optional_empty : Language (optional (class only_a)) []
+optional_empty = inl refl
+
+-- one or more words of a class aren't empty
+plus_empty : Language (plus (class only_a)) [] → ⊥
+plus_empty h = let e = empty_of (plus (class only_a)) h in cc
+
+-- one or more of what may be empty may be empty
+plus_of_empty : Language (plus (optional (class only_a))) []
+plus_of_empty = ([], [], refl, inl refl, no_more)
+
+-- "a", a line feed, and "bc"
+abbrev two_lines : List ℕ
+two_lines = codes "a\nbc"
+
+-- the first byte is at line 1, column 1
+place_0 : (line_at two_lines 0 ≡ 1) × (column_at two_lines 0 ≡ 1)
+place_0 = (refl, refl)
+
+-- a line feed belongs to the line that it ends
+place_1 : (line_at two_lines 1 ≡ 1) × (column_at two_lines 1 ≡ 2)
+place_1 = (refl, refl)
+
+-- after a line feed the next line begins
+place_2 : (line_at two_lines 2 ≡ 2) × (column_at two_lines 2 ≡ 1)
+place_2 = (refl, refl)
+
+-- and goes on
+place_3 : (line_at two_lines 3 ≡ 2) × (column_at two_lines 3 ≡ 2)
+place_3 = (refl, refl)
+
+-- the end of the text is one column after its last byte
+place_4 : (line_at two_lines 4 ≡ 2) × (column_at two_lines 4 ≡ 3)
+place_4 = (refl, refl)
+
+-- a string has a position for each byte, a class has one, and the empty string none
+counts : (position_count (bytes (codes "if")) ≡ 2) × (position_count a_then_bs ≡ 2)
+    × (position_count (bytes []) ≡ 0) × (position_count (plus a_then_bs) ≡ 2)
+counts = (refl, refl, refl, refl)
+
+-- a, then any number of b, may begin with the position of a
+begins_a : First a_then_bs 0 0
+begins_a = inl refl
+
+-- but not with that of b
+begins_not_b : First a_then_bs 0 1 → ⊥
+begins_not_b (inl h) = (cc)
+begins_not_b (inr h) = let e = h.0 in cc
+
+-- it may end with a
+ends_a : Last a_then_bs 0 0
+ends_a = inr (refl, refl)
+
+-- or with b
+ends_b : Last a_then_bs 0 1
+ends_b = inl refl
+
+-- b may follow a
+a_then_b : Follow a_then_bs 0 0 1
+a_then_b = inr (inr (refl, refl))
+
+-- b may follow b
+b_then_b : Follow a_then_bs 0 1 1
+b_then_b = inr (inl (inr (refl, refl)))
+
+-- a follows nothing
+never_a : (p : ℕ) → Follow a_then_bs 0 p 0 → ⊥
+never_a p (inl h) = elim h [ ]
+never_a p (inr (inl (inl h))) = elim h [ ]
+never_a p (inr (inl (inr (last, begins)))) = (cc)
+never_a p (inr (inr (last, begins))) = (cc)

@@ -1,0 +1,268 @@
+-- The rules of a scanner, tried on cases that are worked by hand: names and a keyword.
+use Rattle.std.proofs.Common.{◌≡◌, ℕ, zero, suc, ◌+◌, ◌-◌, ◌<◌, ◌≤◌, ◌^◌, List, [], ◌∷◌, length, take, drop, Some, None, slice_get, refl, ap, ◌∙◌, subst, arith, length-take, length-drop}
+use Rattle.std.specs.Prelude.{codes}
+use Rattle.std.specs.Borrow.{Bor}
+use Rattle.ck_base.specs.BitSet.{Has}
+use Rattle.rex_model.specs.Language.{bytes, class, sequence, plus, IsIn, Repeats, no_more, one_more, Language}
+use Rattle.rex_model.specs.Meaning.{meaning}
+use Rattle.rex_model.specs.Run.{Tokens, end, bad, token, skip, finished, bad_at}
+use Rattle.rex_model.specs.Winner.{InContext, Candidate, Winner, HasNoCandidate}
+use Rattle.rex_model.specs.declared.regex.Regex.{Regex}
+use Rattle.rex_model.specs.declared.regex.Regex.TheVariants as regex
+use Rattle.rex_model.specs.declared.rules.ScanRule.{ScanRule}
+use Rattle.rex_model.proofs.Meanings.{meaning-Bytes, meaning-Class, meaning-Plus, meaning-Seq}
+
+-- a reference to a value
+abbrev at : {X : Type 0} → X → Bor X
+at x = record { ref_ptr = (0, 0); now = x }
+
+-- the class of the letters a to z: bits 97 to 122
+abbrev a_to_z : List ℕ
+a_to_z = 0 ∷ (2 ^ 59 - 2 ^ 33) ∷ 0 ∷ 0 ∷ []
+
+-- the expression of a name: one letter or more
+abbrev name : Regex
+name = regex.Plus (at (regex.Class a_to_z))
+
+-- the expression of a keyword
+abbrev keyword : Regex
+keyword = regex.Bytes (at (codes "if"))
+
+-- a name is one or more letters
+name_meaning : meaning name ≡ plus (class a_to_z)
+name_meaning = meaning-Plus (at (regex.Class a_to_z)) ∙ ap plus (meaning-Class a_to_z)
+
+-- the keyword is "if"
+keyword_meaning : meaning keyword ≡ bytes (codes "if")
+keyword_meaning = meaning-Bytes (at (codes "if"))
+
+-- two keywords, one after the other
+two_keywords : meaning (regex.Seq (at (keyword ∷ keyword ∷ [])))
+    ≡ sequence (bytes (codes "if")) (sequence (bytes (codes "if")) (bytes []))
+two_keywords = meaning-Seq (at (keyword ∷ keyword ∷ [])) ∙ rw keyword_meaning
+
+-- a rule without context that is active in state 0
+abbrev rule_of : Regex → ℕ → ScanRule
+rule_of body number = record {
+  states = record { size = 1; words = 1 ∷ [] };
+  body = at body;
+  context = None;
+  token = Some number;
+  next = None;
+}
+
+-- such a rule has a candidate where the text begins with one of its words
+candidate_of : (rules : List ScanRule) (rest : List ℕ) (i number n : ℕ) (body : Regex)
+    → slice_get rules i ≡ Some (rule_of body number) → 0 < n → n ≤ length rest → Language (meaning body) (take n rest)
+    → Candidate rules 0 rest i n n
+candidate_of rules rest i number n body is_rule some within word = record {
+  rule = rule_of body number;
+  is_rule = is_rule;
+  active = (omega arith, λ e. cc);
+  some = some;
+  fits = omega arith;
+  within = within;
+  body = word;
+  context = let nothing : n - n ≡ 0 = omega arith in rw nothing;
+}
+
+-- of a rule without context the candidate's text is all of it, and a word of the body
+rule_text : (rules : List ScanRule) (state : ℕ) (rest : List ℕ) (i n m : ℕ) (rule : ScanRule)
+    → rule.context ≡ None → slice_get rules i ≡ Some rule → Candidate rules state rest i n m
+    → (n ≡ m) × Language (meaning rule.body.now) (take n rest)
+rule_text rules state rest i n m rule plain is_rule c =
+    let same : c.rule ≡ rule = cc in
+    let behind = subst (λ r. InContext r.context (take (m - n) (drop n rest))) same c.context in
+    let context = subst (λ x. InContext x (take (m - n) (drop n rest))) plain behind in
+    let word = subst (λ r. Language (meaning r.body.now) (take n rest)) same c.body in
+    let fits = c.fits in
+    let within = c.within in
+    (omega (arith, ap length context, length-take (m - n) (drop n rest), length-drop n rest), word)
+
+-- names, and then a keyword
+abbrev names_first : List ScanRule
+names_first = rule_of name 0 ∷ rule_of keyword 1 ∷ []
+
+-- the keyword, and then names
+abbrev keyword_first : List ScanRule
+keyword_first = rule_of keyword 1 ∷ rule_of name 0 ∷ []
+
+-- one of the letters before a word of letters
+letter : (b : ℕ) (w : List ℕ) → IsIn a_to_z b → Repeats (Language (class a_to_z)) w
+    → Repeats (Language (class a_to_z)) (b ∷ w)
+letter b w among more = one_more (b ∷ []) w (b, refl, among) more
+
+-- i is a letter
+i_is_in : IsIn a_to_z 105
+i_is_in = (omega arith, λ e. cc)
+
+-- f is a letter
+f_is_in : IsIn a_to_z 102
+f_is_in = (omega arith, λ e. cc)
+
+-- y is a letter
+y_is_in : IsIn a_to_z 121
+y_is_in = (omega arith, λ e. cc)
+
+-- "if" is a name
+if_is_a_name : Language (meaning name) (codes "if")
+if_is_a_name = rw name_meaning (codes "i", codes "f", refl, (105, refl, i_is_in), letter 102 [] f_is_in no_more)
+
+-- so is "iffy"
+iffy_is_a_name : Language (meaning name) (codes "iffy")
+iffy_is_a_name = rw name_meaning (
+  codes "i",
+  codes "ffy",
+  refl,
+  (105, refl, i_is_in),
+  letter 102 _ f_is_in (letter 102 _ f_is_in (letter 121 _ y_is_in no_more)),
+)
+
+-- "if" is a keyword
+if_is_a_keyword : Language (meaning keyword) (codes "if")
+if_is_a_keyword = rw keyword_meaning refl
+
+-- at "iffy" the keyword is a candidate
+keyword_is_a_candidate : Candidate names_first 0 (codes "iffy") 1 2 2
+keyword_is_a_candidate =
+    candidate_of names_first (codes "iffy") 1 1 2 keyword refl (omega arith) (omega arith) if_is_a_keyword
+
+-- so is the name
+name_is_a_candidate : Candidate names_first 0 (codes "iffy") 0 4 4
+name_is_a_candidate =
+    candidate_of names_first (codes "iffy") 0 0 4 name refl (omega arith) (omega arith) iffy_is_a_name
+
+-- the keyword isn't the winner: the name is longer
+keyword_is_no_winner : Winner names_first 0 (codes "iffy") 1 2 2 → ⊥
+keyword_is_no_winner won = omega (arith, won.longest 0 4 4 name_is_a_candidate)
+
+-- the name is the winner
+name_is_the_winner : Winner names_first 0 (codes "iffy") 0 4 4
+name_is_the_winner = record {
+  candidate = name_is_a_candidate;
+  longest = λ j k l c. c.within;
+  first = λ j k c. omega arith;
+  greatest = λ k c. c.fits;
+}
+
+-- at "if" both are equally long, and the name wins where it is written first
+names_first_wins : Winner names_first 0 (codes "if") 0 2 2
+names_first_wins = record {
+  candidate = candidate_of names_first (codes "if") 0 0 2 name refl (omega arith) (omega arith) if_is_a_name;
+  longest = λ j k l c. c.within;
+  first = λ j k c. omega arith;
+  greatest = λ k c. c.fits;
+}
+
+-- the keyword wins where it is written first
+keyword_first_wins : Winner keyword_first 0 (codes "if") 0 2 2
+keyword_first_wins = record {
+  candidate = candidate_of keyword_first (codes "if") 0 1 2 keyword refl (omega arith) (omega arith) if_is_a_keyword;
+  longest = λ j k l c. c.within;
+  first = λ j k c. omega arith;
+  greatest = λ k c. c.fits;
+}
+
+-- at "iffy" the name wins wherever it is written
+longer_wins : Winner keyword_first 0 (codes "iffy") 1 4 4
+longer_wins = record {
+  candidate = candidate_of keyword_first (codes "iffy") 1 0 4 name refl (omega arith) (omega arith) iffy_is_a_name;
+  longest = λ j k l c. c.within;
+  first = not_the_keyword;
+  greatest = λ k c. c.fits;
+}
+  where
+    not_the_keyword : (j k : ℕ) → Candidate keyword_first 0 (codes "iffy") j k 4 → 1 ≤ j
+    not_the_keyword zero k c =
+        let (all, word) = rule_text keyword_first 0 (codes "iffy") 0 k 4 (rule_of keyword 1) refl refl c in
+        let four = subst (λ n. Language (meaning keyword) (take n (codes "iffy"))) all word in
+        let is_if = rw keyword_meaning at four in
+        (let e = is_if in cc)
+    not_the_keyword (suc j) k c = omega arith
+
+-- a name that stands before "if"
+abbrev name_before_if : ScanRule
+name_before_if = record (rule_of name 0) { context = Some (at keyword) }
+
+-- at "xif" its text is "x", and "if" is the context; "xif" without context is no candidate
+x_before_if : Winner (name_before_if ∷ []) 0 (codes "xif") 0 1 3
+x_before_if = record {
+  candidate = record {
+    rule = name_before_if;
+    is_rule = refl;
+    active = (omega arith, λ e. cc);
+    some = omega arith;
+    fits = omega arith;
+    within = omega arith;
+    body = rw name_meaning (codes "x", [], refl, (120, refl, (omega arith, λ e. cc)), no_more);
+    context = if_is_a_keyword;
+  };
+  longest = λ j k l c. c.within;
+  first = λ j k c. omega arith;
+  greatest = λ k c. (text_is_x k 3 c).0;
+}
+  where
+    text_is_x : (k m : ℕ) → Candidate (name_before_if ∷ []) 0 (codes "xif") 0 k m → (k ≤ 1) × (m ≡ k + 2)
+    text_is_x k m c =
+        let same : c.rule ≡ name_before_if = cc in
+        let word = subst (λ r. InContext r.context (take (m - k) (drop k (codes "xif")))) same c.context in
+        let is_if = rw keyword_meaning at word in
+        let fits = c.fits in
+        let within = c.within in
+        let two = ap length is_if in
+        let shown = length-take (m - k) (drop k (codes "xif")) in
+        let left = length-drop k (codes "xif") in
+        (omega arith, omega arith)
+
+-- the tokens of "if"
+tokens_of_if : Tokens keyword_first (codes "if") 0 0 (record { number = 1; from = 0; to = 2 } ∷ []) finished
+unfolding keyword_first_wins candidate_of
+tokens_of_if = token 0 0 0 2 2 1 [] finished keyword_first_wins refl (end 0 2 refl)
+
+-- with no rules every byte is a bad place
+bad_without_rules : Tokens [] (codes "if") 0 0 [] (bad_at 0)
+bad_without_rules = bad 0 0 (omega arith) (λ i n m c. let e = c.is_rule in cc)
+
+-- the keyword, skipped, and once only: state 1 comes after it, in which it isn't active
+abbrev skipped_once : ScanRule
+skipped_once = record (rule_of keyword 1) { token = None; next = Some 1 }
+
+-- at "ifif" its text is "if"
+skipped_wins : Winner (skipped_once ∷ []) 0 (codes "ifif") 0 2 2
+skipped_wins = record {
+  candidate = record {
+    rule = skipped_once;
+    is_rule = refl;
+    active = (omega arith, λ e. cc);
+    some = omega arith;
+    fits = omega arith;
+    within = omega arith;
+    body = if_is_a_keyword;
+    context = refl;
+  };
+  longest = length_is_two;
+  first = λ j k c. omega arith;
+  greatest = λ k c. c.fits;
+}
+  where
+    length_is_two : (j k l : ℕ) → Candidate (skipped_once ∷ []) 0 (codes "ifif") j k l → l ≤ 2
+    length_is_two zero k l c =
+        let (all, word) = rule_text (skipped_once ∷ []) 0 (codes "ifif") 0 k l skipped_once refl refl c in
+        let is_if = rw keyword_meaning at word in
+        let two = ap length is_if in
+        let shown = length-take k (codes "ifif") in
+        let within = c.within in
+        omega arith
+    length_is_two (suc j) k l c = (let e = c.is_rule in cc)
+
+-- the second "if" is a bad place
+bad_second : Tokens (skipped_once ∷ []) (codes "ifif") 0 0 [] (bad_at 2)
+unfolding skipped_wins
+bad_second = skip 0 0 0 2 2 [] (bad_at 2) skipped_wins refl (bad 1 2 (omega arith) not_active)
+  where
+    not_active : HasNoCandidate (skipped_once ∷ []) 1 (codes "if")
+    not_active zero n m c =
+        let same : c.rule ≡ skipped_once = cc in
+        let active = subst (λ r. Has r.states 1) same c.active in
+        (omega arith)
+    not_active (suc j) n m c = (let e = c.is_rule in cc)

@@ -1,0 +1,6 @@
+-- That the tokens of a text are determined is what `one_run` shows.
+use Rattle.rex_model.proofs.laws.at_most_one_run.Goals as goal
+use Rattle.rex_model.proofs.OneRun.{one_run}
+
+pub returns : goal.returns
+returns c = one_run c.args.rules.now.rules.items c.args.text.now c.args.state c.args.at

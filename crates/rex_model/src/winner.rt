@@ -1,0 +1,113 @@
+ghost use Rattle.std.specs.Prelude.{◌≡◌, ◌+◌, ◌^◌, ◌<◌, length, IfOk, All, IsSome, None};
+ghost use Rattle.rex_model.specs.Best.{IsBest, longer_of};
+ghost use Rattle.rex_model.specs.Longest.{IsLongestOfRule};
+ghost use Rattle.rex_model.specs.Run.{Scans};
+ghost use Rattle.rex_model.specs.Winner.{next_state};
+
+use crate::longest::longest;
+use crate::rules::{ScanRule, ScanRules};
+use crate::scan::Scan;
+use ck_base::NoMemory;
+use std::alloc::Global;
+
+/// A rule, numbered from 0, and how many bytes its text has.
+#[derive(Clone, Copy)]
+struct Best {
+    rule: u32,
+    len: usize,
+}
+
+/// What a scan of the text finds at the place `at` in the state, by sets of positions. At the text's
+/// end and past it this is `End`. No set is made for a body with 4,294,967,295 positions or more:
+/// the answer is `NoMemory`.
+pub fn scan_sets(
+    alloc: Global,
+    rules: &ScanRules,
+    text: &[u8],
+    state: u32,
+    at: usize,
+) -> Result<Scan, NoMemory>
+    requires few { length rules.now.rules.items < 2 ^ 32 }
+    requires plain { All (λ rule. rule.context ≡ None) rules.now.rules.items }
+    ensures { IfOk result (λ scan. Scans rules.now.rules.items text.now state at scan) }
+{
+    if at >= text.len() {
+        return Ok(Scan::End);
+    }
+    let scan = match winner(alloc, &rules.rules, state, &text[at..])? {
+        Some(best) => scan_of(
+            &rules.rules[best.rule as usize],
+            best.rule,
+            at + best.len,
+            state,
+        ),
+        None => Scan::BadToken(at),
+    };
+    Ok(scan)
+}
+
+/// The winner at the beginning of `rest`; `None` where no rule has a candidate.
+fn winner(
+    alloc: Global,
+    rules: &[ScanRule],
+    state: u32,
+    rest: &[u8],
+) -> Result<Option<Best>, NoMemory>
+    requires few { length rules.now < 2 ^ 32 }
+    requires plain { All (λ rule. rule.context ≡ None) rules.now }
+    ensures { IfOk result (λ best. IsBest rules.now state rest.now best) }
+{
+    let mut best = None;
+    for (i, rule) in rules.iter().enumerate() {
+        let found = longest_of_rule(alloc, rule, state, rest)?;
+        best = longer(best, i as u32, found);
+    }
+    Ok(best)
+}
+
+/// How many bytes the longest text of the rule has; `None` where there is none, or the rule isn't
+/// active.
+fn longest_of_rule(
+    alloc: Global,
+    rule: &ScanRule,
+    state: u32,
+    rest: &[u8],
+) -> Result<Option<usize>, NoMemory>
+    ensures { IfOk result (λ found. IsLongestOfRule rule.now state rest.now found) }
+{
+    if !rule.states.has(state) {
+        return Ok(None);
+    }
+    longest(alloc, rule.body, rest)
+}
+
+/// The longer of the best text so far and what the next rule found; of equals the first.
+fn longer(best: Option<Best>, rule: u32, found: Option<usize>) -> Option<Best>
+    ensures { result ≡ longer_of best rule found }
+{
+    match (best, found) {
+        (best, None) => best,
+        (Some(best), Some(len)) if len <= best.len => Some(best),
+        (_, Some(len)) => Some(Best { rule, len }),
+    }
+}
+
+/// What a scan answers where this rule wins in the state, and `to` is the place after its text.
+fn scan_of(rule: &ScanRule, number: u32, to: usize, state: u32) -> Scan
+    ensures token { IsSome rule.now.token → result ≡ Scan.Token number to (next_state rule.now state) }
+    ensures skip { rule.now.token ≡ None → result ≡ Scan.Skip number to (next_state rule.now state) }
+{
+    let state = rule.next.unwrap_or(state);
+    match rule.token {
+        Some(_) => Scan::Token {
+            rule: number,
+            to,
+            state,
+        },
+        None => Scan::Skip {
+            rule: number,
+            to,
+            state,
+        },
+    }
+}
