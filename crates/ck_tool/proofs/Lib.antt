@@ -1,0 +1,15 @@
+mod ClassSpans
+mod Ends
+mod Examples
+mod FirstLine
+mod LinesSoFar
+mod NextPlace
+mod PiecesSoFar
+mod PrintedLine
+mod RulesSoFar
+mod ScannedRules
+mod SectionsOfLines
+mod ThreeWords
+mod TokenSteps
+mod TokensMet
+mod Walk

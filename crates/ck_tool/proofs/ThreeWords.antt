@@ -1,0 +1,11 @@
+-- Three words that are read one by one.
+use Rattle.std.proofs.Common.{◌≡◌, ℕ, ◌<◌, ◌≤◌, List, [], ◌∷◌, length, get_or, map, refl, ap, arith}
+
+-- a list of three elements is these three
+pub three : {X : Type 0} (xs : List X) (a b c : X) → 3 ≤ length xs → length xs < 4 → a ≡ get_or xs 0 a → b ≡ get_or xs 1 b
+    → c ≡ get_or xs 2 c → xs ≡ a ∷ b ∷ c ∷ []
+three [] a b c least most p q r = absurd (omega arith)
+three (x ∷ []) a b c least most p q r = absurd (omega arith)
+three (x ∷ y ∷ []) a b c least most p q r = absurd (omega arith)
+three (x ∷ y ∷ z ∷ []) a b c least most p q r = cc
+three (x ∷ y ∷ z ∷ w ∷ xs) a b c least most p q r = absurd (omega arith)

@@ -1,0 +1,15 @@
+pub mod Begins
+pub mod Declares
+pub mod LineTokens
+pub mod NumberedLines
+pub mod Outcome
+pub mod Places
+pub mod RuleShape
+pub mod RulesOfLines
+pub mod Sections
+pub mod Seen
+pub mod Shapes
+pub mod Stops
+pub mod Tells
+pub mod TokenText
+pub mod Words

@@ -1,0 +1,56 @@
+-- What a line of a specification declares: `RULE pieces : TOKEN name` or `RULE pieces : SKIP`.
+use Rattle.std.specs.Prelude.{◌≡◌, ℕ, ◌<◌, Bool, true, false, List, [], ◌∷◌, ◌++◌, length, Option, Some, None, codes}
+use Rattle.std.specs.List.{list_any}
+use Rattle.rex_model.specs.Language.{Re, none, bytes, class, sequence, alternative, star, plus, optional}
+use Rattle.rex_model.specs.Meaning.{sequence_of}
+use Rattle.ck_tool.specs.LineTokens.{Lexeme, word, string, byte_set, sign, LineTokens}
+
+-- a piece without a sign: a string that isn't empty, or a class
+pub data Atom : Lexeme → Re → Type 0 where
+  a_string : (text : List ℕ) → 0 < length text → Atom (string text) (bytes text)
+  a_class : (words : List ℕ) → Atom (byte_set words) (class words)
+
+-- pieces one after the other, each followed by at most one `*` or `+`
+pub data Pieces : List Lexeme → List Re → Type 0 where
+  no_pieces : Pieces [] []
+  once : (token : Lexeme) (tokens : List Lexeme) (r : Re) (rs : List Re) → Atom token r → Pieces tokens rs
+      → Pieces (token ∷ tokens) (r ∷ rs)
+  starred : (token : Lexeme) (tokens : List Lexeme) (r : Re) (rs : List Re) → Atom token r → Pieces tokens rs
+      → Pieces (token ∷ sign 42 ∷ tokens) (star r ∷ rs)
+  plussed : (token : Lexeme) (tokens : List Lexeme) (r : Re) (rs : List Re) → Atom token r → Pieces tokens rs
+      → Pieces (token ∷ sign 43 ∷ tokens) (plus r ∷ rs)
+
+-- the piece has no `*`
+abbrev pub is_unstarred : Re → Bool
+is_unstarred none = true
+is_unstarred (bytes text) = true
+is_unstarred (class words) = true
+is_unstarred (sequence r s) = true
+is_unstarred (alternative r s) = true
+is_unstarred (star r) = false
+is_unstarred (plus r) = true
+is_unstarred (optional r) = true
+
+-- one declared rule: what its texts are words of, and the name of its token; none where it skips
+pub record Declaration : Type 0 where
+  pub body : Re
+  pub token : Option (List ℕ)
+
+-- the tokens of a line declare a rule: one or more pieces, of which one at least has no `*`, and a
+-- name that isn't END
+pub data RuleShape : List Lexeme → Declaration → Type 0 where
+  a_token : (tokens : List Lexeme) (rs : List Re) (name : List ℕ) → Pieces tokens rs
+      → list_any is_unstarred rs ≡ true → (name ≡ codes "END" → ⊥)
+      → RuleShape
+      (word (codes "RULE") ∷ (tokens ++ (sign 58 ∷ word (codes "TOKEN") ∷ word name ∷ [])))
+      (record { body = sequence_of rs; token = Some name })
+  a_skip : (tokens : List Lexeme) (rs : List Re) → Pieces tokens rs → list_any is_unstarred rs ≡ true
+      → RuleShape (word (codes "RULE") ∷ (tokens ++ (sign 58 ∷ word (codes "SKIP") ∷ [])))
+      (record { body = sequence_of rs; token = None })
+
+-- each line declares one rule
+pub data RuleLines : List (List ℕ) → List Declaration → Type 0 where
+  no_lines : RuleLines [] []
+  more : (line : List ℕ) (lines : List (List ℕ)) (tokens : List Lexeme) (rule : Declaration) (rules : List Declaration)
+      → LineTokens line tokens → RuleShape tokens rule → RuleLines lines rules
+      → RuleLines (line ∷ lines) (rule ∷ rules)

@@ -1,0 +1,34 @@
+//! The top call: one command line over files and sinks.
+//!
+//! | what | file |
+//! |---|---|
+//! | the call, in the order of what is done | `src/top.rt`; `specs/Outcome.antt` |
+//! | which words are right | `src/words.rt`; `specs/Words.antt` |
+//! | the scan rules of a specification | `src/reader.rt`; `specs/Declares.antt` |
+//! | its lines with tokens; those between REX and END | `src/line.rt`, `src/section.rt`; `specs/NumberedLines.antt`, `specs/Sections.antt` |
+//! | the tokens of a line, and the bytes that they are made of | `src/token.rt`, `src/class.rt`, `src/bytes.rt`; `specs/LineTokens.antt` |
+//! | the rule that a line declares | `src/shape.rt`; `specs/RuleShape.antt` |
+//! | the tokens of a source as text | `src/token_text.rt`, `src/quote.rt`; `specs/TokenText.antt` |
+//! | line and column of a place | `src/place.rt`; `specs/Places.antt` |
+//! | why there is no output | `src/stop.rt`; `specs/Stops.antt` |
+//! | a line put to a sink | `src/telling.rt`; `specs/Tells.antt` |
+#![tactic(auto)]
+
+mod bytes;
+mod class;
+mod line;
+mod place;
+mod quote;
+mod reader;
+mod section;
+mod shape;
+mod stop;
+mod telling;
+#[cfg(test)]
+mod tests;
+mod token;
+mod token_text;
+mod top;
+mod words;
+
+pub use top::cocktail;

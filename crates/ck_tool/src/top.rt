@@ -1,0 +1,138 @@
+ghost use Rattle.std.specs.Prelude.{◌≡◌, ◌^◌, ◌<◌, ◌≤◌, ℕ, List, length, map, string_bytes, IfOk, IfErr, IsOkAnd};
+ghost use Rattle.ck_base.specs.declared.refusal.Refusal.{Refusal as refusal};
+ghost use Rattle.ck_io.specs.Contents.{IsTold, SameContents};
+ghost use Rattle.ck_io.specs.Faults.{Rose, NoneFell};
+ghost use Rattle.ck_tool.specs.Outcome.{Wanted, Ran, UsageExactly};
+ghost use Rattle.ck_tool.specs.Stops.{IsOfText, IsStopOfRead, IsStopOfRun};
+ghost use Rattle.ck_tool.specs.Tells.{Explains};
+ghost use Rattle.ck_tool.specs.Words.{AreTokens, AreRight};
+
+use crate::reader::read_rules;
+use crate::stop::Stop;
+use crate::telling::tell;
+use crate::token_text::tokens_text;
+use crate::words::{Command, command_of};
+use bumpalo::Bump;
+use ck_base::{MEMORY_LINE, NoMemory, READ_LINE, Refusal, Status, USAGE_LINE, WRITE_LINE};
+use ck_io::{Files, LoadError, Sink, load, put_all};
+use std::alloc::Global;
+
+/// A specification has at most this many bytes.
+const SPEC_LIMIT: usize = 1_048_576;
+/// A source has at most this many bytes.
+const SOURCE_LIMIT: usize = 4_194_304;
+
+/// Runs a command line. `words` are those behind the program's name. The output goes to `out`, and a
+/// line to `err` where there is none.
+///
+/// ```text
+/// words            after it a specification and a source are named
+/// specification    after it the scan rules are known; a fault refuses it
+/// source           after it its tokens are known, and so is the whole output; a bad place refuses it
+/// output           only now is `out` written to
+/// ```
+pub fn cocktail<F: Files, O: Sink, E: Sink>(
+    alloc: Global,
+    words: &Vec<String>,
+    files: &mut F,
+    out: &mut O,
+    err: &mut E,
+) -> Status
+    ensures run { Ran (map string_bytes words.now.items)
+        (Wanted (F.contents files.old) (map string_bytes words.now.items))
+        (λ name. Rose (F.faults files.old name) (F.faults files.new name))
+        (record { old = O.written out.old; new = O.written out.new; before = O.faults out.old; now = O.faults out.new })
+        (record { old = E.written err.old; new = E.written err.new; before = E.faults err.old; now = E.faults err.new })
+        result }
+    ensures usage { UsageExactly (map string_bytes words.now.items)
+        (record { old = E.written err.old; new = E.written err.new; before = E.faults err.old; now = E.faults err.new })
+        result }
+{
+    let Some(command) = command_of(words) else {
+        return tell(err, USAGE_LINE, Status::Usage);
+    };
+    let found = output_of(alloc, command, files);
+    finish(alloc, found, out, err)
+}
+
+/// The output that the command asks for, or why there is none.
+fn output_of<F: Files>(alloc: Global, command: Command, files: &mut F) -> Result<Vec<u8>, Stop>
+    ensures output { IfOk result (λ output. (words : List (List ℕ)) → AreTokens words command.entry.spec.now command.entry.source.now
+        → Wanted (F.contents files.old) words output.items) }
+    ensures stop { IfErr result (IsStopOfRun command.entry.spec.now command.entry.source.now
+        (λ name. Rose (F.faults files.old name) (F.faults files.new name))) }
+{
+    let spec = read(alloc, files, command.spec, SPEC_LIMIT, Refusal::SpecTooLong)?;
+    let arena = Bump::new(alloc);
+    let rules = read_rules(alloc, &arena, spec.as_slice())?;
+    let source = read(
+        alloc,
+        files,
+        command.source,
+        SOURCE_LIMIT,
+        Refusal::SourceTooLong,
+    )?;
+    tokens_text(alloc, &rules, source.as_slice())
+}
+
+/// All bytes of the file; `too_long` where it has more than `limit`.
+fn read<F: Files>(
+    alloc: Global,
+    files: &mut F,
+    name: &str,
+    limit: usize,
+    too_long: Refusal,
+) -> Result<Vec<u8>, Stop>
+    requires { limit < 2 ^ 32 }
+    ensures all { IfOk result (λ bytes. IsTold (F.contents files.old name.now) bytes.items) }
+    ensures within { IfOk result (λ bytes. length bytes.items ≤ limit) }
+    ensures stop { IfErr result (IsStopOfRead too_long (Rose (F.faults files.old name.now) (F.faults files.new name.now))) }
+    ensures same { SameContents (F.contents files.old) (F.contents files.new) }
+    ensures later { NoneFell (F.faults files.old) (F.faults files.new) }
+{
+    match load(alloc, files, name, limit) {
+        Ok(bytes) => Ok(bytes),
+        Err(LoadError::ReadFault) => Err(Stop::ReadFault),
+        Err(LoadError::TooLong) => Err(Stop::Refused(too_long)),
+        Err(LoadError::NoMemory) => Err(Stop::NoMemory),
+    }
+}
+
+/// Writes the output, or the line that says why there is none.
+fn finish<O: Sink, E: Sink>(
+    alloc: Global,
+    found: Result<Vec<u8>, Stop>,
+    out: &mut O,
+    err: &mut E,
+) -> Status
+    requires { (r : refusal) → found ≡ Err (Stop.Refused r) → IsOfText r }
+    ensures { (words : List (List ℕ)) → AreRight words
+        → Ran words (λ bytes. IsOkAnd found (λ output. output.items ≡ bytes)) (λ _. found ≡ Err Stop.ReadFault)
+        (record { old = O.written out.old; new = O.written out.new; before = O.faults out.old; now = O.faults out.new })
+        (record { old = E.written err.old; new = E.written err.new; before = E.faults err.old; now = E.faults err.new })
+        result }
+{
+    match found {
+        Ok(output) => match put_all(out, output.as_slice()) {
+            Ok(()) => Status::Done,
+            Err(_) => tell(err, WRITE_LINE, Status::Device),
+        },
+        Err(stop) => explain(alloc, stop, err),
+    }
+}
+
+/// Puts the line that says why there is no output.
+fn explain<E: Sink>(alloc: Global, stop: Stop, err: &mut E) -> Status
+    ensures { Explains stop
+        (record { old = E.written err.old; new = E.written err.new; before = E.faults err.old; now = E.faults err.new })
+        result }
+{
+    match stop {
+        Stop::Refused(refusal) => match refusal.line(alloc) {
+            Ok(line) => tell(err, line.as_slice(), refusal.status()),
+            Err(NoMemory) => tell(err, MEMORY_LINE, Status::Memory),
+        },
+        Stop::ReadFault => tell(err, READ_LINE, Status::Device),
+        Stop::NoMemory => tell(err, MEMORY_LINE, Status::Memory),
+    }
+}
