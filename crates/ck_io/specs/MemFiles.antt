@@ -1,12 +1,12 @@
 -- What files in memory are, which of their calls fail, and what they tell.
 use Rattle.std.specs.Prelude.{◌≡◌, ℕ, ◌⊎◌, List, Option, None, Contains, option_map, unwrap_or, slice_index}
 use Rattle.ck_io.specs.Faults.{one_more}
-use Rattle.ck_io.specs.Folder.{place_in, bytes_in}
+use Rattle.ck_io.specs.Folder.{File, place_in, bytes_in}
 
 -- the files, the counts of faults of each in their order and of all other names together, and the calls so far,
 -- of which those with the numbers in `fails` fail
 pub record FilesInMemory : Type 0 where
-  pub files : List (List ℕ × List ℕ)
+  pub files : List File
   pub counts : List ℕ
   pub others : ℕ
   pub calls : ℕ

@@ -1,7 +1,7 @@
 -- What files that never fail tell.
 use Rattle.std.specs.Prelude.{ℕ, List, [], Option, Some, unwrap_or}
-use Rattle.ck_io.specs.Folder.{bytes_in}
+use Rattle.ck_io.specs.Folder.{File, bytes_in}
 
 -- the bytes that a name was given last; a name that was never added has none
-abbrev pub contents_of : List (List ℕ × List ℕ) → List ℕ → Option (List ℕ)
+abbrev pub contents_of : List File → List ℕ → Option (List ℕ)
 contents_of files name = Some (unwrap_or (bytes_in files name) [])

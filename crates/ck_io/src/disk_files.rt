@@ -6,8 +6,9 @@ use std::io::{Read, Seek, SeekFrom};
 use std::marker::Model;
 use std::{fs, io, rt};
 
-/// The files of the file system, of whose contents nothing is told. Contracts see the count of failed reads, which
-/// is the count of every name.
+/// The files of the file system, of whose contents nothing is told.
+///
+/// Contracts see it as the count of its failed reads, which is the count of every name.
 #[derive(Drop)]
 pub struct DiskFiles<'a, R: rt::Files> {
     rt: &'a R,

@@ -1,8 +1,7 @@
 ghost use Rattle.std.specs.Prelude.{◌≡◌};
-ghost use Rattle.ck_io.specs.declared.fault.LoadError.TheVariants.{ReadFault, NoMemory as out_of_memory};
+ghost use Rattle.ck_io.specs.declared.fault.LoadError.TheVariants.{ReadFault, NoMemory};
 
 use crate::files::Failed;
-use ck_base::NoMemory;
 use std::alloc::AllocError;
 use thiserror::Error;
 
@@ -29,7 +28,7 @@ impl From<Failed> for LoadError {
 }
 
 impl From<AllocError> for LoadError {
-    ghost from_gives = { λ _ error. error ≡ out_of_memory };
+    ghost from_gives = { λ _ error. error ≡ NoMemory };
 
     fn from(_: AllocError) -> LoadError {
         LoadError::NoMemory

@@ -8,14 +8,15 @@ pub struct Failed;
 
 /// Named files that are read part by part.
 ///
-/// For each name `contents` tells its bytes, or nothing, and `faults` counts the reads that failed. A count never
-/// falls, and a failed read may raise the counts of other names too.
+/// For each name `contents` tells its bytes, or nothing, and `faults` counts the reads that failed.
+/// A count never falls, and a failed read may raise the counts of other names too.
 pub trait Files {
     ghost contents: { Self → List ℕ → Option (List ℕ) };
 
     ghost faults: { Self → List ℕ → ℕ };
 
-    /// Reads bytes of the file from byte `at` on into the front of `into`, and says how many; 0 is the end.
+    /// Reads bytes of the file from byte `at` on into the front of `into`, and says how many. None
+    /// are left where it says 0.
     fn read_at(&mut self, name: &str, at: u64, into: &mut [u8]) -> Result<usize, Failed>
         requires { 0 < length into.old }
         ensures within { IfOk result (λ n. n ≤ length into.old) }

@@ -14,9 +14,10 @@ pub struct Folder {
 }
 
 impl Model for Folder {
-    ghost use Rattle.std.specs.Prelude.{ℕ, List};
+    ghost use Rattle.std.specs.Prelude.{List};
+    ghost use Rattle.ck_io.specs.Folder.{File};
 
-    ghost Value = { List (List ℕ × List ℕ) };
+    ghost Value = { List File };
 
     ghost view = { λ folder. folder.files.items };
 }
@@ -29,9 +30,10 @@ struct NamedFile {
 }
 
 impl Model for NamedFile {
-    ghost use Rattle.std.specs.Prelude.{ℕ, List, string_bytes};
+    ghost use Rattle.std.specs.Prelude.{string_bytes};
+    ghost use Rattle.ck_io.specs.Folder.{File};
 
-    ghost Value = { List ℕ × List ℕ };
+    ghost Value = { File };
 
     ghost view = { λ file. (string_bytes file.name, file.bytes.items) };
 }
@@ -66,7 +68,7 @@ impl Folder {
 
     /// Gives the file of this name these bytes; a new file comes last.
     pub fn put(&mut self, name: &str, bytes: &[u8]) -> Result<(), NoMemory>
-        ensures ok { OnOk result (self.new ≡ with_file self.old name.now bytes.now) }
+        ensures ok { OnOk result (self.new ≡ with_file self.old (name.now, bytes.now)) }
         ensures err { OnErr result (self.new ≡ self.old) }
     {
         let file = NamedFile {
@@ -81,7 +83,7 @@ impl Folder {
     }
 }
 
-/// Copies the bytes from byte `at` on to the front of `into`, as many as there are and fit, and says how many.
+/// Copies the bytes from byte `at` on, as many as fit, to the front of `into`, and says how many.
 pub fn copy_part(bytes: &[u8], at: u64, into: &mut [u8]) -> usize
     requires { 0 < length into.old }
     ensures within { result ≤ length into.old }

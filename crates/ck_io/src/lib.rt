@@ -2,10 +2,13 @@
 //!
 //! | question | file |
 //! |---|---|
-//! | what a read and a put promise | `src/files.rt`, `src/sink.rt`; `specs/Contents.antt`, `specs/Faults.antt` |
-//! | all bytes of a file, all bytes to a sink, and why not | `src/loading.rt`, `src/putting.rt`, `src/fault.rt` |
-//! | files and sinks in memory | `src/mem_files.rt`, `src/never_fails.rt`, `src/mem_sink.rt`; `specs/MemFiles.antt`, `specs/NeverFails.antt`, `specs/MemSink.antt` |
-//! | what these stand on: named files, calls that are to fail | `src/folder.rt`, `src/calls.rt`; `specs/Folder.antt` |
+//! | what a read and a put promise | `src/files.rt`, `src/sink.rt` |
+//! | told contents; counts of faults | `specs/Contents.antt`; `specs/Faults.antt` |
+//! | all bytes of a file; all bytes to a sink | `src/loading.rt`; `src/putting.rt` |
+//! | why they fail | `src/fault.rt` |
+//! | files in memory | `src/mem_files.rt`, `src/never_fails.rt`; the specs of these names |
+//! | a sink in memory | `src/mem_sink.rt`; `specs/MemSink.antt` |
+//! | what these stand on: named files; calls that are to fail | `src/folder.rt`; `src/calls.rt` |
 //! | the disk, and the writers of std | `src/disk_files.rt`, `src/std_sink.rt` |
 #![tactic(auto)]
 

@@ -9,7 +9,9 @@ use std::alloc::Global;
 /// How many bytes are asked for at a time, at most.
 const PART: usize = 16384;
 
-/// All bytes of the file, which may be `limit` at most. `TooLong` comes once `limit + 1` bytes were read.
+/// All bytes of the file, of which there may be `limit` at most.
+///
+/// `TooLong` comes once `limit + 1` bytes were read, also where nothing is told of the file.
 pub fn load<F: Files>(
     alloc: Global,
     files: &mut F,

@@ -10,7 +10,8 @@ use ck_base::NoMemory;
 use std::alloc::Global;
 use std::marker::Model;
 
-/// Files in memory, of which chosen reads fail. A name that was never added is missing, and its reads fail.
+/// Files in memory, of which chosen reads fail. A name that was never added is missing, and each read
+/// of it fails.
 #[derive(Drop)]
 pub struct MemFiles {
     folder: Folder,
@@ -39,7 +40,8 @@ impl Model for MemFiles {
 }
 
 impl MemFiles {
-    /// No files yet. The reads with the numbers in `fails` will fail; the first read has the number 1.
+    /// No files yet. The reads with the numbers in `fails` will fail; the first one has the
+    /// number 1.
     pub fn new(alloc: Global, fails: Vec<u64>) -> MemFiles
         ensures missing { (name : List ℕ) → contents_of result name ≡ None }
         ensures no_fault { (name : List ℕ) → faults_of result name ≡ 0 }

@@ -42,8 +42,8 @@ impl Model for MemSink {
 }
 
 impl MemSink {
-    /// A sink with room for `room` bytes, of which a put takes `per_call` at most. The puts with the numbers in
-    /// `fails` will fail; the first put has the number 1.
+    /// A sink with room for `room` bytes, of which a put takes `per_call` at most. The puts with
+    /// the numbers in `fails` will fail; the first one has the number 1.
     pub fn new(
         alloc: Global,
         per_call: usize,
@@ -87,7 +87,7 @@ impl Sink for MemSink {
         ensures some { IfOk result (λ n. 0 < n) }
         ensures later { self.old.faults ≤ self.new.faults }
 
-        // Beyond what all `Sink`s promise: which puts fail, how much a put takes, and what is left after it.
+        // Beyond what all `Sink`s promise: which puts fail, and what a put leaves.
         ensures failing { IsErr result ↔ IsFailing self.old }
         ensures taken { IfOk result (λ n. n ≡ taken_of self.old bytes.now) }
         ensures ok { IfOk result (λ n. self.new ≡ record self.old {

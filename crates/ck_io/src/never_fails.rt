@@ -15,9 +15,10 @@ pub struct NeverFails {
 }
 
 impl Model for NeverFails {
-    ghost use Rattle.std.specs.Prelude.{ℕ, List};
+    ghost use Rattle.std.specs.Prelude.{List};
+    ghost use Rattle.ck_io.specs.Folder.{File};
 
-    ghost Value = { List (List ℕ × List ℕ) };
+    ghost Value = { List File };
 
     ghost view = { λ files. files.folder };
 }

@@ -6,7 +6,8 @@ use crate::files::Failed;
 
 /// What takes bytes, a piece at a time.
 ///
-/// `written` tells all bytes that it has taken, or nothing. `faults` counts the puts that failed, and never falls.
+/// `written` tells all bytes that it has taken, or nothing. `faults` counts the puts that failed,
+/// and never falls.
 pub trait Sink {
     ghost written: { Self → Option (List ℕ) };
 

@@ -5,8 +5,9 @@ use crate::sink::Sink;
 use std::io::Write;
 use std::marker::Model;
 
-/// A writer of std, of whose bytes nothing is told. Contracts see the count of failed puts; a write that takes no
-/// byte is one of them.
+/// A writer of std, of whose bytes nothing is told.
+///
+/// Contracts see it as the count of its failed puts; a write that takes no byte is one of them.
 #[derive(Drop)]
 pub struct StdSink<W: Write + Drop> {
     inner: W,

@@ -4,7 +4,7 @@ use crate::{
 };
 use std::alloc::{AllocError, Global};
 use std::test::Fail;
-use std::{env, fs};
+use std::{env, fs, process};
 
 /// Bytes of which no two neighbours are equal, so that a part from a wrong place shows.
 fn sample(alloc: Global, size: usize) -> Result<Vec<u8>, AllocError> {
@@ -141,7 +141,8 @@ fn put_all_says_how_many_bytes_were_taken(rt: HostRuntime) -> Result<(), Fail> {
 
 #[test]
 fn disk_files_load_a_real_file(rt: HostRuntime) -> Result<(), Fail> {
-    let path = env::temp_dir(&rt)?.join(rt.alloc(), "ck_io_disk_files")?;
+    let name = format!(in rt.alloc(); "ck_io_{}", process::id(rt.process()))?;
+    let path = env::temp_dir(&rt)?.join(rt.alloc(), name.as_str())?;
     let bytes = sample(rt.alloc(), 20000)?;
     fs::write(&rt, path.as_str(), bytes.as_slice())?;
     let mut files = DiskFiles::new(&rt);

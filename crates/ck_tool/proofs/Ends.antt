@@ -7,7 +7,7 @@ use Rattle.ck_base.specs.declared.refusal.Refusal.{Refusal}
 use Rattle.ck_base.specs.declared.refusal.Refusal.TheVariants as refusal
 use Rattle.ck_base.specs.declared.status.Status.{Status}
 use Rattle.ck_base.specs.declared.status.Status.TheVariants as status
-use Rattle.ck_tool.specs.Outcome.{Sunk, Kept, Gained, GainedPart, Told, ended, Names, Ran, UsageExactly, done, usage, spec_refused, source_refused, memory, reading, writing, usage_cut, refusal_cut, memory_cut}
+use Rattle.ck_tool.specs.Outcome.{Sunk, Kept, GainedPart, Told, Names, Ran, UsageExactly, done, usage, spec_refused, source_refused, memory, reading, writing, usage_cut, refusal_cut, memory_cut}
 use Rattle.ck_tool.specs.Stops.{IsOfText, IsStopOfRun}
 use Rattle.ck_tool.specs.Tells.{Tells, told, cut, Explains}
 use Rattle.ck_tool.specs.declared.stop.Stop.{Stop}
@@ -20,7 +20,7 @@ pub by_words : (words : List (List ℕ)) (wants : List ℕ → Type 0) (rose : L
 by_words words wants rose out err _ wrong kept (told gained) = usage wrong kept gained
 by_words words wants rose out err _ wrong kept (cut part) = usage_cut wrong kept part
 
--- status 1 then
+-- then status 1 comes, unless the sink failed
 pub usage_by_words : (words : List (List ℕ)) (err : Sunk) (ends : Status) → (AreRight words → ⊥)
     → Tells (line_of refusal.Usage) status.Usage err ends → UsageExactly words err ends
 usage_by_words words err _ wrong (told gained) = record { only = λ _. wrong; always = λ _. inl refl }

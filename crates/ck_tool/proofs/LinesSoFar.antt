@@ -1,10 +1,7 @@
 -- The loop over the lines of a specification: what is found when some lines are read.
-use Rattle.std.proofs.Common.{◌≡◌, ℕ, ◌+◌, ◌<◌, ◌≤◌, Bool, true, false, not, cond, List, [], ◌∷◌, ◌++◌, length, map, refl, sym, ap, ◌∙◌, append_assoc, arith}
-use Rattle.std.specs.List.{list_all}
+use Rattle.std.proofs.Common.{◌≡◌, ℕ, ◌+◌, ◌≤◌, List, ◌++◌, length, map}
 use Rattle.std.specs.Str.Lines.{lines}
-use Rattle.std.proofs.lemmas.List.{append-nil, map-append, length-append}
-use Rattle.ck_tool.specs.LineTokens.{is_blank}
-use Rattle.ck_tool.specs.NumberedLines.{NumberedLine, numbered, line_of}
+use Rattle.ck_tool.specs.NumberedLines.{numbered, line_of}
 use Rattle.ck_tool.specs.declared.line.SpecLine.{SpecLine}
 
 -- the lines found and those of the rest are all lines

@@ -1,9 +1,9 @@
 -- What is printed at a place is the line of the token, or of END, there.
-use Rattle.std.proofs.Common.{◌≡◌, ℕ, List, [], ◌∷◌, ◌++◌, length, Some, IfSome, slice_get, slice_range, codes, refl}
+use Rattle.std.proofs.Common.{◌≡◌, ℕ, List, [], length, Some, IfSome, slice_get, slice_range, refl}
 use Rattle.std.proofs.lemmas.Option.{get_or_from_slice_get}
 use Rattle.rex_model.specs.declared.rules.ScanRule.{ScanRule}
-use Rattle.ck_tool.specs.Places.{IsPlace, printed_place}
-use Rattle.ck_tool.specs.TokenText.{quoted, place_text, token_line, end_line}
+use Rattle.ck_tool.specs.Places.{IsPlace, printed_place, printed_token, printed_end}
+use Rattle.ck_tool.specs.TokenText.{place_text, token_line, end_line}
 use Rattle.ck_tool.specs.declared.place.Place.{Place}
 
 -- line and column of the place
@@ -11,17 +11,17 @@ printed_place-is : (text : List ℕ) (place : Place) → IsPlace text place → 
 printed_place-is text place is = rw (is.line, is.column) refl
 
 -- the line of a token whose text begins at the place
-pub printed_line : (names : List (List ℕ)) (text name : List ℕ) (place : Place) (number to : ℕ) → IsPlace text place
+pub token_line_here : (names : List (List ℕ)) (text name : List ℕ) (place : Place) (number to : ℕ) → IsPlace text place
     → slice_get names number ≡ Some name
-    → printed_place place ++ (name ++ (32 ∷ (quoted (slice_range text place.at to) ++ 10 ∷ [])))
+    → printed_token place name (slice_range text place.at to)
     ≡ token_line names text (record { number = number; from = place.at; to = to })
-printed_line names text name place number to is has_name =
+token_line_here names text name place number to is has_name =
     rw (printed_place-is text place is, get_or_from_slice_get names number name [] has_name) refl
 
 -- the line of END
-pub printed_end : (text : List ℕ) (place : Place) → IsPlace text place → place.at ≡ length text
-    → printed_place place ++ (codes "END" ++ 10 ∷ []) ≡ end_line text
-printed_end text place is at_end = rw (printed_place-is text place is, at_end) refl
+pub end_line_here : (text : List ℕ) (place : Place) → IsPlace text place → place.at ≡ length text
+    → printed_end place ≡ end_line text
+end_line_here text place is at_end = rw (printed_place-is text place is, at_end) refl
 
 -- the rule's token has the name that was looked up for the rule
 pub name_of_token : (rules : List ScanRule) (names : List (List ℕ)) (name : List ℕ) (i number : ℕ) (rule : ScanRule)

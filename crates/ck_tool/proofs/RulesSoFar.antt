@@ -1,10 +1,10 @@
 -- The rules of a specification, read one after the other.
-use Rattle.std.proofs.Common.{◌≡◌, ℕ, ◌+◌, ◌<◌, ◌≤◌, List, [], ◌∷◌, ◌++◌, length, map, take, get_or, refl, sym, ap, ◌∙◌, Option, None, Some, arith}
+use Rattle.std.proofs.Common.{◌≡◌, ℕ, ◌+◌, ◌<◌, ◌≤◌, List, [], ◌∷◌, ◌++◌, length, map, take, get_or, refl, Option, None, Some, arith}
 use Rattle.std.proofs.lemmas.List.{take_more, map-append, length-append}
 use Rattle.rex_model.specs.declared.rules.ScanRule.{ScanRule}
 use Rattle.ck_tool.specs.LineTokens.{Lexeme, LineTokens}
 use Rattle.ck_tool.specs.RuleShape.{Declaration, RuleShape, RuleLines, no_lines, more as one_more_line}
-use Rattle.ck_tool.specs.Declares.{IsRule, IsTokenNumber, AreRules, no_rules, more as one_more_rule, Met, no_more}
+use Rattle.ck_tool.specs.Declares.{IsRule, IsTokenNumber, AreRules, no_rules, more as one_more_rule, no_more}
 use Rattle.ck_tool.specs.RulesOfLines.{DeclaresRule, AreRulesOf}
 use Rattle.ck_tool.specs.Sections.{text_of}
 use Rattle.ck_tool.specs.declared.line.SpecLine.{SpecLine}

@@ -1,8 +1,8 @@
 -- The walk over a text from scan to scan, and what it has written on the way.
-use Rattle.std.proofs.Common.{◌≡◌, ℕ, ◌+◌, ◌<◌, ◌≤◌, List, [], ◌∷◌, ◌++◌, length, Some, None, slice_get, flat_map, refl, ap, ◌∙◌, append_assoc, drop, arith, length-drop}
+use Rattle.std.proofs.Common.{◌≡◌, ℕ, ◌+◌, ◌<◌, ◌≤◌, List, [], ◌∷◌, ◌++◌, length, Some, slice_get, flat_map, refl, ap, ◌∙◌, append_assoc, drop, arith, length-drop}
 use Rattle.std.proofs.lemmas.List.{append-nil, flat_map_more}
 use Rattle.rex_model.specs.Run.{Scans, Token, Tokens, Ending, finished, bad_at}
-use Rattle.rex_model.specs.Winner.{Winner, Candidate, HasNoCandidate, next_state}
+use Rattle.rex_model.specs.Winner.{Candidate}
 use Rattle.rex_model.specs.declared.rules.ScanRule.{ScanRule}
 use Rattle.rex_model.specs.declared.scan.Scan.TheVariants as scan
 use Rattle.ck_tool.specs.TokenText.{token_line, tokens_text, end_line}
@@ -35,6 +35,7 @@ ends_within : (rules : List ScanRule) (text : List ℕ) (state at i n m : ℕ) �
 ends_within rules text state at i n m candidate =
     omega (arith, candidate.some, candidate.fits, candidate.within, length-drop at text)
 
+-- what each scan says
 pub gives_token : (rules : List ScanRule) (text : List ℕ) (state at i to next : ℕ) → Scans rules text state at (scan.Token i to next)
     → GivesToken rules text state at i to next
 gives_token rules text state at _ _ _ (Scans.token i n m t won is) = record {
@@ -64,10 +65,6 @@ gives_end rules text state at within (Scans.end past) =
 pub gives_bad : (rules : List ScanRule) (text : List ℕ) (state at place : ℕ) → Scans rules text state at (scan.BadToken place)
     → Tokens rules text state at [] (bad_at at)
 gives_bad rules text state at _ (Scans.bad left nothing) = Tokens.bad state at left nothing
-
--- the walk begins
-pub starts : (rules : List ScanRule) (names : List (List ℕ)) (text : List ℕ) → Walked rules names text 0 0 []
-starts rules names text = record { found = []; tokens = λ more ending rest. rest; lines = refl }
 
 -- a token more
 pub takes : (rules : List ScanRule) (names : List (List ℕ)) (text : List ℕ) (state at i to next : ℕ) (written : List ℕ)

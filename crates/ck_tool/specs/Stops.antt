@@ -1,6 +1,8 @@
 -- What a stop says of the run that it ends.
 use Rattle.std.specs.Prelude.{◌≡◌, ℕ, ◌⊎◌, List}
 use Rattle.ck_base.specs.Lines.{status_of}
+use Rattle.ck_base.specs.declared.fault.SpecFault.{SpecFault}
+use Rattle.ck_base.specs.declared.fault.SpecFault.TheVariants as fault
 use Rattle.ck_base.specs.declared.refusal.Refusal.{Refusal}
 use Rattle.ck_base.specs.declared.refusal.Refusal.TheVariants as refusal
 use Rattle.ck_base.specs.declared.status.Status.TheVariants as status
@@ -20,11 +22,10 @@ IsStopOfRead too_long rose (Refused r) = r ≡ too_long
 IsStopOfRead too_long rose ReadFault = rose
 IsStopOfRead too_long rose NoMemory = Unit {0}
 
--- the stop refuses the specification, or is for want of memory
-abbrev pub IsStopOfSpec : Stop → Type 0
-IsStopOfSpec (Refused r) = status_of r ≡ status.Spec
-IsStopOfSpec ReadFault = ⊥
-IsStopOfSpec NoMemory = Unit {0}
+-- the stop for a fault of the specification
+abbrev pub stop_of : SpecFault → Stop
+stop_of (fault.Bad line kind) = Refused (refusal.BadSpec line kind)
+stop_of fault.NoMemory = NoMemory
 
 -- the stop refuses the source's first bad place, or is for want of memory
 abbrev pub IsStopOfScan : ScanRules → List ℕ → Stop → Type 0

@@ -3,7 +3,7 @@ ghost use Rattle.ck_tool.specs.Places.{IsPlace};
 
 /// A place in a text: the number of bytes before it, and its line and column, which count from 1.
 /// Columns count bytes.
-#[derive(Clone, Copy, Debug, PartialEq, Eq)]
+#[derive(Clone, Copy)]
 pub(crate) struct Place {
     pub(crate) at: usize,
     pub(crate) line: u32,

@@ -1,11 +1,11 @@
-ghost use Rattle.ck_tool.specs.Stops.{IsStopOfSpec};
 ghost use Rattle.std.specs.Prelude.{◌≡◌};
+ghost use Rattle.ck_tool.specs.Stops.{stop_of};
 ghost use Rattle.ck_tool.specs.declared.stop.Stop.TheVariants.{NoMemory as no_memory};
 
 use ck_base::{NoMemory, Refusal, SpecFault};
 
 /// Why there is no output.
-#[derive(Clone, Copy, Debug, PartialEq, Eq)]
+#[derive(Clone, Copy)]
 pub(crate) enum Stop {
     /// The specification or the source is refused.
     Refused(Refusal),
@@ -24,7 +24,7 @@ impl From<NoMemory> for Stop {
 }
 
 impl From<SpecFault> for Stop {
-    ghost from_gives = { λ _ stop. IsStopOfSpec stop };
+    ghost from_gives = { λ fault stop. stop ≡ stop_of fault };
 
     fn from(fault: SpecFault) -> Stop {
         match fault {

@@ -14,6 +14,11 @@ const LINES: &str = "REX\nRULE [a-z]+ : TOKEN ID\nRULE [\t- ]+ : SKIP\nEND\n";
 /// All bytes from blank to `~`, and those from tab to blank.
 const ANY: &str = "REX\nRULE [ -~]+ : TOKEN TEXT\nRULE [\t- ]+ : TOKEN GAP\nEND\n";
 
+/// Line ends of two bytes, no blanks between tokens, and no end of the last line.
+const TIGHT: &str =
+    "REX\r\nRULE[a^]+:TOKEN T_1\r\n \t\nRULE\"b\"*\"c\":SKIP\nRULE \"b\":SKIP\n\tEND ";
+/// The line of a read fault.
+const READ_FAULT: &str = "device: read fault\n";
 /// The line of wrong words.
 const USAGE: &str =
     "usage: cocktail check SPEC | tokens|derive|tree|attrs|ir|labels|run SPEC SOURCE | bench N\n";
@@ -44,87 +49,58 @@ fn ends_in(
 }
 
 #[test]
-fn each_command_line_ends_as_wanted(rt: HostRuntime) -> Result<(), Fail> {
-    for (words, spec, source, out, err, status) in [
+fn tokens_are_printed_with_their_places(rt: HostRuntime) -> Result<(), Fail> {
+    for (spec, source, out) in [
         (
-            "tokens s x",
             SIGNS,
             "if iffy",
             "1:1 IF \"if\"\n1:4 ID \"iffy\"\n1:8 END\n",
-            "",
-            Status::Done,
         ),
         (
-            "tokens s x",
             SIGNS,
             "a<=b",
             "1:1 ID \"a\"\n1:2 LE \"<=\"\n1:4 ID \"b\"\n1:5 END\n",
-            "",
-            Status::Done,
         ),
-        ("tokens s x", SIGNS, "", "1:1 END\n", "", Status::Done),
+        (SIGNS, "", "1:1 END\n"),
         (
-            "tokens s x",
             LINES,
             "ab\n  cd\n",
             "1:1 ID \"ab\"\n2:3 ID \"cd\"\n3:1 END\n",
-            "",
-            Status::Done,
         ),
+        (ANY, "a\"\\", "1:1 TEXT \"a\\\"\\\\\"\n1:4 END\n"),
+        (ANY, "\t\n\r ", "1:1 GAP \"\\x09\\x0a\\x0d \"\n2:3 END\n"),
+        (TIGHT, "b^a^c", "1:2 T_1 \"^a^\"\n1:6 END\n"),
+        ("REX\nEND", "", "1:1 END\n"),
+    ] {
+        let files = [spec.as_bytes(), source.as_bytes()];
+        let words = "tokens s x";
+        let holds = ends_in(rt.alloc(), words, &files, &[0, 0], out, "", Status::Done)?;
+        assert!(rt; holds, "{source:?} by {spec:?}");
+    }
+    Ok(())
+}
+
+#[test]
+fn the_first_refusal_is_told(rt: HostRuntime) -> Result<(), Fail> {
+    for (words, spec, source, err, status) in [
+        ("", SIGNS, "", USAGE, Status::Usage),
+        ("tokens s", SIGNS, "", USAGE, Status::Usage),
+        ("tokens s x y", SIGNS, "", USAGE, Status::Usage),
+        ("-x", SIGNS, "", USAGE, Status::Usage),
+        ("tokens none x", SIGNS, "", READ_FAULT, Status::Device),
+        ("tokens s x", "", "if", "spec:1: section\n", Status::Spec),
         (
             "tokens s x",
-            ANY,
-            "a\"\\",
-            "1:1 TEXT \"a\\\"\\\\\"\n1:4 END\n",
-            "",
-            Status::Done,
-        ),
-        (
-            "tokens s x",
-            ANY,
-            "\t\n\r ",
-            "1:1 GAP \"\\x09\\x0a\\x0d \"\n2:3 END\n",
-            "",
-            Status::Done,
-        ),
-        (
-            "tokens s x",
-            SIGNS,
-            "if @",
-            "",
-            "source:1:4: bad token\n",
-            Status::Source,
-        ),
-        (
-            "tokens s x",
-            LINES,
-            "ab\n cd;",
-            "",
-            "source:2:4: bad token\n",
-            Status::Source,
+            "REX\n",
+            "if",
+            "spec:2: section\n",
+            Status::Spec,
         ),
         (
             "tokens s x",
             NO_COLON,
             "if",
-            "",
             "spec:2: syntax\n",
-            Status::Spec,
-        ),
-        (
-            "tokens s x",
-            "",
-            "if",
-            "",
-            "spec:1: section\n",
-            Status::Spec,
-        ),
-        (
-            "tokens s x",
-            "REX\n",
-            "if",
-            "",
-            "spec:2: section\n",
             Status::Spec,
         ),
         // The source is read only after the specification was accepted.
@@ -132,33 +108,27 @@ fn each_command_line_ends_as_wanted(rt: HostRuntime) -> Result<(), Fail> {
             "tokens s none",
             NO_COLON,
             "",
-            "",
             "spec:2: syntax\n",
             Status::Spec,
         ),
+        ("tokens s none", SIGNS, "", READ_FAULT, Status::Device),
         (
-            "tokens s none",
+            "tokens s x",
             SIGNS,
-            "",
-            "",
-            "device: read fault\n",
-            Status::Device,
+            "if @",
+            "source:1:4: bad token\n",
+            Status::Source,
         ),
         (
-            "tokens none x",
-            SIGNS,
-            "",
-            "",
-            "device: read fault\n",
-            Status::Device,
+            "tokens s x",
+            LINES,
+            "ab\n cd;",
+            "source:2:4: bad token\n",
+            Status::Source,
         ),
-        ("", SIGNS, "", "", USAGE, Status::Usage),
-        ("tokens s", SIGNS, "", "", USAGE, Status::Usage),
-        ("tokens s x y", SIGNS, "", "", USAGE, Status::Usage),
-        ("-x", SIGNS, "", "", USAGE, Status::Usage),
     ] {
         let files = [spec.as_bytes(), source.as_bytes()];
-        let holds = ends_in(rt.alloc(), words, &files, &[0, 0], out, err, status)?;
+        let holds = ends_in(rt.alloc(), words, &files, &[0, 0], "", err, status)?;
         assert!(rt; holds, "{words}: {source:?} by {spec:?}");
     }
     Ok(())
@@ -189,31 +159,30 @@ fn a_failing_sink_ends_the_run(rt: HostRuntime) -> Result<(), Fail> {
 
 #[test]
 fn texts_past_their_limits_are_refused(rt: HostRuntime) -> Result<(), Fail> {
-    let long = vec![in rt.alloc(); b' '; 4_194_305]?;
-    for (spec, source, err, status) in [
+    for (spec_size, source_size, err, status) in [
         (
-            &long[..1_048_577],
-            b"".as_slice(),
+            1_048_577,
+            0,
             "spec: longer than 1048576 bytes\n",
             Status::Spec,
         ),
         (
-            SIGNS.as_bytes(),
-            long.as_slice(),
+            0,
+            4_194_305,
             "source: longer than 4194304 bytes\n",
             Status::Source,
         ),
     ] {
+        let blanks = vec![in rt.alloc(); b' '; spec_size]?;
+        let spec = if spec_size == 0 {
+            SIGNS.as_bytes()
+        } else {
+            blanks.as_slice()
+        };
+        let source = vec![in rt.alloc(); b' '; source_size]?;
+        let files = [spec, source.as_slice()];
         assert!(rt;
-            ends_in(
-                rt.alloc(),
-                "tokens s x",
-                &[spec, source],
-                &[0, 0],
-                "",
-                err,
-                status
-            )?,
+            ends_in(rt.alloc(), "tokens s x", &files, &[0, 0], "", err, status)?,
             "{err}"
         );
     }

@@ -1,8 +1,8 @@
-ghost use Rattle.std.specs.Prelude.{◌≡◌, ℕ, ◌+◌, ◌^◌, ◌<◌, ◌≤◌, List, [], ◌∷◌, ◌++◌, length, All, IfOk, IfErr, IfSome, OnOk, Some, None, codes, slice_get};
+ghost use Rattle.std.specs.Prelude.{◌≡◌, ℕ, ◌+◌, ◌^◌, ◌<◌, List, ◌++◌, length, All, IfOk, IfErr, IfSome, OnOk, Some, None, slice_get};
 ghost use Rattle.rex_model.specs.Run.{Token, Tokens, finished};
-ghost use Rattle.ck_tool.specs.Places.{printed_place};
+ghost use Rattle.ck_tool.specs.Places.{printed_place, printed_token, printed_end};
 ghost use Rattle.ck_tool.specs.Stops.{IsStopOfScan};
-ghost use Rattle.ck_tool.specs.TokenText.{quoted, tokens_text as text_of_tokens};
+ghost use Rattle.ck_tool.specs.TokenText.{tokens_text as text_of_tokens};
 
 use crate::place::Place;
 use crate::quote::push_quoted;
@@ -31,13 +31,8 @@ pub(crate) fn tokens_text(alloc: Global, rules: &ScanRules, source: &[u8]) -> Re
                 to,
                 state: next,
             } => {
-                push_token(
-                    alloc,
-                    &mut out,
-                    place,
-                    name_of(rules, rule),
-                    &source[place.at..to],
-                )?;
+                let name = name_of(rules, rule);
+                push_token(alloc, &mut out, place, name, &source[place.at..to])?;
                 place = place.forward(source, to);
                 state = next;
             }
@@ -83,8 +78,7 @@ fn push_token(
     name: &[u8],
     text: &[u8],
 ) -> Result<(), NoMemory>
-    ensures { OnOk result (out.new.items ≡ out.old.items
-        ++ (printed_place place ++ (name.now ++ (32 ∷ (quoted text.now ++ 10 ∷ []))))) }
+    ensures { OnOk result (out.new.items ≡ out.old.items ++ printed_token place name.now text.now) }
 {
     push_place(alloc, out, place)?;
     out.extend_from_slice(name)?;
@@ -96,8 +90,7 @@ fn push_token(
 
 /// Appends the line of END at the place.
 fn push_end(alloc: Global, out: &mut Vec<u8>, place: Place) -> Result<(), NoMemory>
-    ensures { OnOk result (out.new.items ≡ out.old.items
-        ++ (printed_place place ++ (codes "END" ++ 10 ∷ []))) }
+    ensures { OnOk result (out.new.items ≡ out.old.items ++ printed_end place) }
 {
     push_place(alloc, out, place)?;
     out.extend_from_slice(b"END\n")?;

@@ -1,8 +1,8 @@
+-- One part more keeps what holds while a file is loaded.
 use Rattle.std.proofs.Common.{◌≡◌, ◌≤◌, ◌∙◌, length, arith, rules}
 use Rattle.ck_io.proofs.Front.{StartsWith-part}
 use Rattle.ck_io.proofs.loading.load_front.Goals as goal
 
--- one part more
 pub loop-buffer-preserved : goal.loop-buffer-preserved
 loop-buffer-preserved g c =
     let kept = c.loop-buffer.invariant in

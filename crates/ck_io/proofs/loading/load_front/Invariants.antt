@@ -1,3 +1,4 @@
+-- While a file is loaded, the bytes so far are its first ones.
 use Rattle.std.proofs.Common.{◌-◌, ◌≤◌, IfSome, vec_len}
 use Rattle.std.specs.Io.{StartsWith}
 use Rattle.ck_io.specs.Contents.{SameContents}

@@ -1,5 +1,5 @@
 -- The bit of the byte is set in the word of the byte.
-use Rattle.std.proofs.Common.{arith, rules}
+use Rattle.std.proofs.Common.{arith}
 use Rattle.std.proofs.lemmas.Grind.{common_steps}
 use Rattle.ck_tool.proofs.class.add_byte.Goals as goal
 

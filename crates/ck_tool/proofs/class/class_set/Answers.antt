@@ -1,5 +1,5 @@
 -- Each turn takes one span; where nothing is left, the spans are all.
-use Rattle.std.proofs.Common.{arith, rules}
+use Rattle.std.proofs.Common.{rules}
 use Rattle.ck_tool.proofs.ClassSpans.{in_next, is_class}
 use Rattle.ck_tool.proofs.class.class_set.Goals as goal
 

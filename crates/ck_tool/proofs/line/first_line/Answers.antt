@@ -1,5 +1,4 @@
 -- The line feed ends the line, or there is none.
-use Rattle.std.proofs.Common.{rules, arith}
 use Rattle.ck_tool.proofs.FirstLine.{first_of_lines, last_of_lines}
 use Rattle.ck_tool.proofs.line.first_line.Goals as goal
 

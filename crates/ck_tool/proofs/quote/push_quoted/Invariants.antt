@@ -1,4 +1,4 @@
-use Rattle.std.proofs.Common.{◌≡◌, ◌∷◌, [], ◌++◌, flat_map, take}
+use Rattle.std.proofs.Common.{◌≡◌, ◌++◌, flat_map, take}
 use Rattle.ck_tool.specs.TokenText.{quoted_byte}
 use Rattle.ck_tool.proofs.quote.push_quoted.Given as goal
 

@@ -1,5 +1,5 @@
 -- A string that isn't empty and a class are atoms.
-use Rattle.std.proofs.Common.{arith, rules}
+use Rattle.std.proofs.Common.{rules}
 use Rattle.rex_model.proofs.Meanings.{meaning-Bytes, meaning-Class}
 use Rattle.ck_tool.specs.RuleShape.{a_string, a_class}
 use Rattle.ck_tool.proofs.shape.atom_of.Goals as goal

@@ -1,5 +1,4 @@
 -- The token is an atom, and its sign follows.
-use Rattle.std.proofs.Common.{rules}
 use Rattle.ck_tool.proofs.PiecesSoFar.{begins_piece}
 use Rattle.ck_tool.proofs.shape.first_piece.Goals as goal
 

@@ -1,5 +1,5 @@
 -- The pieces so far stand before the rest.
-use Rattle.std.proofs.Common.{length, map}
+use Rattle.std.proofs.Common.{length}
 use Rattle.ck_tool.proofs.PiecesSoFar.{PiecesSoFar}
 use Rattle.ck_tool.proofs.shape.sequence_of.Given as goal
 

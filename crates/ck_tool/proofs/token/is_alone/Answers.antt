@@ -1,5 +1,5 @@
 -- The word is the first token, and blanks follow.
-use Rattle.std.proofs.Common.{◌≡◌, ap, sym, ◌∙◌, rules}
+use Rattle.std.proofs.Common.{◌≡◌, ap, sym, ◌∙◌}
 use Rattle.std.proofs.lemmas.Slice.Eq.{bytes_eq-Decides}
 use Rattle.ck_tool.specs.LineTokens.{word}
 use Rattle.ck_tool.specs.Seen.{seen}

@@ -1,5 +1,4 @@
-use Rattle.std.proofs.Common.{◌≡◌, ◌∷◌, [], map, string_bytes, codes, ap, rules, arith}
-use Rattle.std.proofs.lemmas.Slice.Eq.{bytes_eq-Decides}
+use Rattle.std.proofs.Common.{◌≡◌, map, string_bytes, codes, ap, rules}
 use Rattle.ck_tool.proofs.ThreeWords.{three}
 use Rattle.ck_tool.proofs.words.command_of.Goals as goal
 

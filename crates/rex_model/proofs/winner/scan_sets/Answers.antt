@@ -7,7 +7,7 @@ use Rattle.rex_model.proofs.ScanOfWinner.{scan_of_winner}
 use Rattle.rex_model.proofs.winner.scan_sets.Goals as goal
 
 pub returns-then-at-text : goal.returns-then-at-text
-returns-then-at-text c = end c.if-at-text.true
+returns-then-at-text c = end (omega arith)
 
 pub index-requires : goal.index-requires
 index-requires c =
@@ -25,4 +25,4 @@ returns-in-Some c =
 
 pub returns-in-None : goal.returns-in-None
 returns-in-None c =
-    bad c.if-at-text.false (rw c.in-None.is at (rw (take_rest, c.deref.ensures.value) at c.in_ok-best.ensures))
+    bad (omega arith) (rw c.in-None.is at (rw (take_rest, c.deref.ensures.value) at c.in_ok-best.ensures))
