@@ -1,3 +1,4 @@
 mod AddedFile
+mod Examples
 mod Front
 mod Pieces

@@ -1,4 +1,5 @@
 mod ClassSpans
+mod DeclarationExamples
 mod Ends
 mod Examples
 mod FirstLine
