@@ -1,8 +1,7 @@
 -- The spans that the inside of a class begins with, and their bits in the set.
-use Rattle.std.proofs.Common.{◌≡◌, ℕ, ◌+◌, ◌-◌, ◌<◌, ◌≤◌, ◌⊎◌, ◌↔◌, inl, inr, true, List, [], ◌∷◌, ◌++◌, length, take, drop, get_or, refl, ◌∙◌, append_assoc, Some, arith}
+use Rattle.std.proofs.Common.{◌≡◌, ℕ, ◌+◌, ◌-◌, ◌<◌, ◌≤◌, ◌⊎◌, ◌↔◌, inl, inr, true, List, [], ◌∷◌, ◌++◌, length, take, drop, get_or, append_assoc, Some, arith}
 use Rattle.std.specs.List.{slice_get}
 use Rattle.std.proofs.lemmas.List.{take_rest, append-nil}
-use Rattle.std.proofs.lemmas.Bool.{cases_lt}
 use Rattle.rex_model.specs.Language.{IsIn}
 use Rattle.ck_tool.specs.LineTokens.{Span, Spans, no_spans, single, range, InSpans, IsClass, is_class_byte}
 use Rattle.ck_tool.specs.Begins.{BeginsSpans, AddsSpan}
@@ -39,31 +38,6 @@ pub record AddsBelow (old new : List ℕ) (low end : ℕ) : Type 0 where
   pub kept : (byte : ℕ) → IsIn old byte → IsIn new byte
   pub more : (byte : ℕ) → low ≤ byte → byte < end → IsIn new byte
 
--- no byte is added at first
-pub adds_none : (set : List ℕ) (low : ℕ) → AddsBelow set set low low
-adds_none set low = record {
-  size = refl;
-  only = λ byte has. inl has;
-  kept = λ byte has. has;
-  more = λ byte above below. absurd (omega arith);
-}
-
--- one byte more
-pub adds_more : (old now new : List ℕ) (low byte : ℕ) → low ≤ byte → AddsBelow old now low byte → AddsSpan now new byte byte
-    → AddsBelow old new low (byte + 1)
-adds_more old now new low byte order before adds = record {
-  size = adds.size ∙ before.size;
-  only = λ b has. elim (adds.only b has) [
-    | inl there ↦ elim (before.only b there) [ inl first ↦ inl first | inr within ↦ inr (within.0, omega (arith, within.1)) ]
-    | inr same ↦ inr (omega (arith, same.0), omega (arith, same.1))
-  ];
-  kept = λ b has. adds.kept b (before.kept b has);
-  more = λ b above below. elim (cases_lt b byte) [
-    | inl lt ↦ adds.kept b (before.more b above lt)
-    | inr ge ↦ adds.more b ge (omega arith)
-  ];
-}
-
 -- all bytes of the span
 pub adds_all : (old new : List ℕ) (low high end : ℕ) → end ≡ high + 1 → AddsBelow old new low end → AddsSpan old new low high
 adds_all old new low high end at_end adds = record {
@@ -73,38 +47,35 @@ adds_all old new low high end at_end adds = record {
   more = λ b above below. adds.more b above (omega arith);
 }
 
--- the bytes before the rest are those of the spans
-pub record InBefore (inside rest set : List ℕ) : Type 0 where
+-- the spans before the rest are read, and the set has their bytes
+pub record BytesSoFar (inside rest set : List ℕ) : Type 0 where
   pub before : List Span
   pub spans : (spans : List Span) → Spans rest spans → Spans inside (before ++ spans)
   pub has : (byte : ℕ) → IsIn set byte ↔ InSpans before byte
 
-pub in_none : (inside set : List ℕ) → ((byte : ℕ) → IsIn set byte → ⊥) → InBefore inside inside set
-in_none inside set none = record {
-  before = [];
-  spans = λ spans are. are;
-  has = λ byte. (λ is. none byte is, λ is. absurd is);
-}
-
 -- a byte is in the spans with one more at the end
-in_more : (before : List Span) (span : Span) (byte : ℕ)
+in_span_more : (before : List Span) (span : Span) (byte : ℕ)
     → InSpans (before ++ span ∷ []) byte ↔ (InSpans before byte ⊎ ((span.low ≤ byte) × (byte ≤ span.high)))
-in_more [] span byte = (λ is. elim is [ inl within ↦ inr within | inr none ↦ absurd none ], λ is. elim is [ inl none ↦ absurd none | inr within ↦ inl within ])
-in_more (first ∷ before) span byte =
-    let rest = in_more before span byte in (
+in_span_more [] span byte = (
+  λ is. elim is [ inl within ↦ inr within | inr none ↦ absurd none ],
+  λ is. elim is [ inl none ↦ absurd none | inr within ↦ inl within ],
+)
+in_span_more (first ∷ before) span byte =
+    let rest = in_span_more before span byte in (
       λ is. elim is [ inl here ↦ inl (inl here) | inr there ↦ elim (rest.0 there) [ inl old ↦ inl (inr old) | inr new ↦ inr new ] ],
       λ is. elim is [ inl old ↦ elim old [ inl here ↦ inl here | inr there ↦ inr (rest.1 (inl there)) ] | inr new ↦ inr (rest.1 (inr new)) ],
     )
 
-pub in_next : (inside rest after set new : List ℕ) (low high : ℕ) → InBefore inside rest set → BeginsSpans rest low high after
-    → AddsSpan set new low high → InBefore inside after new
-in_next inside rest after set new low high so_far begins adds =
+-- one span more
+pub one_span_more : (inside rest after set new : List ℕ) (low high : ℕ) → BytesSoFar inside rest set → BeginsSpans rest low high after
+    → AddsSpan set new low high → BytesSoFar inside after new
+one_span_more inside rest after set new low high so_far begins adds =
     let span : Span = record { low = low; high = high } in
     record {
       before = so_far.before ++ span ∷ [];
       spans = λ spans are. rw (append_assoc so_far.before (span ∷ []) spans) (so_far.spans (span ∷ spans) (begins.spans spans are));
       has = λ byte.
-          let more = in_more so_far.before span byte in
+          let more = in_span_more so_far.before span byte in
           let old = so_far.has byte in (
             λ is. more.1 (elim (adds.only byte is) [ inl there ↦ inl (old.0 there) | inr within ↦ inr within ]),
             λ is. elim (more.0 is) [ inl there ↦ adds.kept byte (old.1 there) | inr within ↦ adds.more byte within.0 within.1 ],
@@ -113,7 +84,7 @@ in_next inside rest after set new low high so_far begins adds =
 
 -- where nothing is left, the set is that of the class
 pub is_class : (inside rest set : List ℕ) (first : ℕ) → Some first ≡ slice_get inside 0 → (first ≡ 94 → ⊥) → length rest ≡ 0
-    → InBefore inside rest set → IsClass inside set
+    → BytesSoFar inside rest set → IsClass inside set
 is_class [] rest set first at_first not_caret none all = (cc)
 is_class (byte ∷ inside) (b ∷ rest) set first at_first not_caret none all = absurd (omega arith)
 is_class (byte ∷ inside) [] set first at_first not_caret none all = record {

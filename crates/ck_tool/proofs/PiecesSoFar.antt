@@ -1,5 +1,6 @@
 -- The pieces of a rule, read one after the other.
 use Rattle.std.proofs.Common.{◌≡◌, ℕ, ◌+◌, ◌-◌, ◌≤◌, Bool, true, ◌||◌, not, List, [], ◌∷◌, ◌++◌, length, map, take, drop, refl, ap, append_assoc, Option, None, Some, Bor, arith}
+use Rattle.std.specs.Prelude.{codes}
 use Rattle.std.specs.List.{list_any}
 use Rattle.std.proofs.lemmas.List.{take_rest, append-nil, map-append}
 use Rattle.std.proofs.lemmas.List.Folds.{list_any-append}
@@ -15,6 +16,7 @@ use Rattle.ck_tool.specs.declared.token.Token.{Token}
 use Rattle.ck_tool.specs.declared.shape.Repeat.{Repeat}
 use Rattle.ck_tool.specs.declared.shape.Repeat.TheVariants.{Once, Star, Plus}
 
+-- an atom has no `*`
 atom_is_unstarred : (token : Lexeme) (r : Re) → Atom token r → is_unstarred r ≡ true
 atom_is_unstarred token r (a_string text some) = refl
 atom_is_unstarred token r (a_class words) = refl
@@ -54,7 +56,9 @@ more_pieces tokens rest parts more has_unstarred star part repeat count so_far b
     record {
       pieces = λ rs are. rw (meanings, append_assoc (map meaning parts) (meaning part ∷ []) rs)
           (so_far.pieces (meaning part ∷ rs) (begins.pieces rs (rw (take_rest rest count, at_count) at are)));
-      some = rw (meanings, list_any-append is_unstarred (map meaning parts) (meaning part ∷ []), so_far.some, or-false, begins.starred, at_star);
+      some =
+          let all = list_any-append is_unstarred (map meaning parts) (meaning part ∷ []) in
+          rw (meanings, all, so_far.some, or-false, begins.starred, at_star);
     }
 
 -- where nothing is left, the pieces are all
@@ -71,6 +75,8 @@ all_pieces tokens [] parts none so_far = record {
 -- pieces between RULE and a colon are a rule
 pub is_rule_shape : (tokens pieces : List Lexeme) (name : Option (Bor (List ℕ))) (body : Re) → IsAroundColon tokens pieces name
     → ArePieces pieces body → RuleShape tokens (record { body = body; token = name_of name })
-is_rule_shape tokens pieces None body around are = rw (around.are_tokens, are.is_body) (a_skip pieces are.parts are.are_pieces are.some)
+is_rule_shape tokens pieces None body around are =
+    rw (around.are_tokens, are.is_body) (a_skip pieces are.parts are.are_pieces are.some)
 is_rule_shape tokens pieces (Some name) body around are =
-    rw (around.are_tokens, are.is_body) (a_token pieces are.parts name.now are.are_pieces are.some (λ is_end. around.not_end (ap Some is_end)))
+    let not_end = λ (is_end : name.now ≡ codes "END"). around.not_end (ap Some is_end) in
+    rw (around.are_tokens, are.is_body) (a_token pieces are.parts name.now are.are_pieces are.some not_end)

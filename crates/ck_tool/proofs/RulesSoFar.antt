@@ -16,6 +16,7 @@ pub record RulesSoFar (lines : List SpecLine) (names : List (List ℕ)) (rules :
   pub few : length names ≤ length lines
   pub each : length rules ≡ length lines
 
+-- no line declares no rule
 pub no_rules_yet : (names : List (List ℕ)) (rules : List ScanRule) → names ≡ [] → rules ≡ [] → RulesSoFar [] names rules
 no_rules_yet names rules no_names none = rw (no_names, none) (record {
   are_rules = record { declared = []; by_lines = no_lines; met = no_more []; are_rules = no_rules };
@@ -23,6 +24,7 @@ no_rules_yet names rules no_names none = rw (no_names, none) (record {
   each = refl;
 })
 
+-- one line more at the end declares one rule more
 line_at_end : {lines : List (List ℕ)} {declared : List Declaration} (line : List ℕ) (tokens : List Lexeme) (last : Declaration)
     → LineTokens line tokens → RuleShape tokens last → RuleLines lines declared → RuleLines (lines ++ line ∷ []) (declared ++ last ∷ [])
 line_at_end line tokens last are shape no_lines = one_more_line line [] tokens last [] are shape no_lines
@@ -30,6 +32,7 @@ line_at_end line tokens last are shape (one_more_line first lines its_tokens rul
     one_more_line first _ its_tokens rule _ its_are its_shape (line_at_end line tokens last are shape rest)
 
 module _ (old new : List (List ℕ)) (keeps : Keeps old new) where
+  -- a token's number and a rule stay right where more names are numbered
   number_stays : (name : Option (List ℕ)) (number : Option ℕ) → IsTokenNumber old name number → IsTokenNumber new name number
   number_stays None None is = tt
   number_stays None (Some n) is = is
@@ -45,6 +48,7 @@ module _ (old new : List (List ℕ)) (keeps : Keeps old new) where
     next = is.next;
   }
 
+  -- one rule more at the end
   rule_at_end : {declared : List Declaration} {rules : List ScanRule} (last : Declaration) (rule : ScanRule)
       → IsRule new last rule → AreRules old declared rules → AreRules new (declared ++ last ∷ []) (rules ++ rule ∷ [])
   rule_at_end last rule is no_rules = one_more_rule last [] rule [] is no_rules

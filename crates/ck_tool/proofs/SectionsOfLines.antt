@@ -25,23 +25,31 @@ pub are_between : (all rest : List SpecLine) (first : SpecLine) (place : ℕ) �
 are_between all rest first place at is_rex (last, at_last, is_end) few = rw at (record {
   first = first.text.now;
   last = last;
-  are_lines = ap (λ more. first.text.now ∷ more) (last_at (map text_of rest) place last at_last (simp length-map few) ∙ ap (λ texts. texts ++ last ∷ []) (take-map text_of place rest));
+  are_lines =
+      let at_end = last_at (map text_of rest) place last at_last (simp length-map few) in
+      ap (λ more. first.text.now ∷ more) (at_end ∙ ap (λ texts. texts ++ last ∷ []) (take-map text_of place rest));
   is_rex = is_rex;
   is_end = is_end;
 })
 
+-- the bytes of numbered lines
+abbrev texts : List NumberedLine → List (List ℕ)
+texts all = map (λ line. line.text) all
+
+-- a line is among the numbered ones where its bytes are among theirs
 text_if : (b : Bool) (line : List ℕ) (number : ℕ) (more : List NumberedLine)
-    → map (λ (l : NumberedLine). l.text) (cond b (record { number = number; text = line } ∷ more) more) ≡ cond b (line ∷ map (λ l. l.text) more) (map (λ l. l.text) more)
+    → texts (cond b (record { number = number; text = line } ∷ more) more) ≡ cond b (line ∷ texts more) (texts more)
 text_if true line number more = refl
 text_if false line number more = refl
 
 -- the numbered lines are those with tokens
-numbered_texts : (number : ℕ) (all : List (List ℕ)) → map (λ (l : NumberedLine). l.text) (numbered number all) ≡ filter has_tokens all
+numbered_texts : (number : ℕ) (all : List (List ℕ)) → texts (numbered number all) ≡ filter has_tokens all
 numbered_texts number [] = refl
 numbered_texts number (line ∷ all) = text_if (has_tokens line) line number (numbered (number + 1) all)
     ∙ ap (λ more. cond (has_tokens line) (line ∷ more) more) (numbered_texts (number + 1) all)
 
-texts_of_lines : (all : List SpecLine) → map text_of all ≡ map (λ (l : NumberedLine). l.text) (map line_of all)
+-- a line of the program has the bytes of its numbered line
+texts_of_lines : (all : List SpecLine) → map text_of all ≡ texts (map line_of all)
 texts_of_lines [] = refl
 texts_of_lines (line ∷ all) = ap (λ more. line.text.now ∷ more) (texts_of_lines all)
 
@@ -52,7 +60,7 @@ declares spec all between declared at sections rules = record {
   first = sections.first;
   between = between;
   last = sections.last;
-  with_tokens = sym (texts_of_lines all ∙ ap (map (λ (l : NumberedLine). l.text)) at ∙ numbered_texts 1 (lines spec)) ∙ sections.are_lines;
+  with_tokens = sym (texts_of_lines all ∙ ap texts at ∙ numbered_texts 1 (lines spec)) ∙ sections.are_lines;
   is_rex = sections.is_rex;
   are_rules = rules;
   is_end = sections.is_end;

@@ -8,6 +8,7 @@ use Rattle.std.proofs.lemmas.List.Sums.{prefix_len-le-length}
 use Rattle.ck_tool.specs.LineTokens.{Lexeme, word, string, byte_set, sign, LineTokens, no_tokens, blank, a_word, a_text, a_class, a_sign, is_sign, is_blank, is_letter, is_word_byte, word_len, text_len, class_len, IsClass}
 use Rattle.ck_tool.specs.Begins.{BeginsLine, CutsAt}
 
+-- a byte more is dropped, or taken, with the byte in front
 drop_one_more : (n byte : ℕ) (bytes : List ℕ) → drop (1 + n) (byte ∷ bytes) ≡ drop n bytes
 drop_one_more n byte bytes = rw one-add
 

@@ -1,6 +1,6 @@
 -- The names of tokens, numbered in the order in which they are first met.
 use Rattle.std.proofs.Common.{◌≡◌, ℕ, zero, suc, ◌+◌, ◌≤◌, List, [], ◌∷◌, ◌++◌, length, refl, ap, ◌∙◌, Option, None, Some, Bor, arith}
-use Rattle.std.specs.Prelude.{slice_get}
+use Rattle.std.specs.Prelude.{Contains, slice_get}
 use Rattle.std.proofs.lemmas.List.{length-append}
 use Rattle.std.proofs.lemmas.Option.{slice_get_within, get_or_from_slice_get}
 use Rattle.ck_base.specs.Numbered.{Interns, known, added}
@@ -13,6 +13,7 @@ use Rattle.ck_tool.specs.RulesOfLines.{IsNumber}
 abbrev pub Keeps : List (List ℕ) → List (List ℕ) → Type 0
 Keeps old new = (n : ℕ) (name : List ℕ) → slice_get old n ≡ Some name → slice_get new n ≡ Some name
 
+-- a name more at the end changes no number, and its number is the next
 keeps_at_end : (names : List (List ℕ)) (more : List ℕ) → Keeps names (names ++ more ∷ [])
 keeps_at_end [] more n name at = (cc)
 keeps_at_end (first ∷ names) more zero name at = at
@@ -22,6 +23,7 @@ at_end : (names : List (List ℕ)) (more : List ℕ) → slice_get (names ++ mor
 at_end [] more = refl
 at_end (first ∷ names) more = at_end names more
 
+-- names that are met keep the numbers of those before
 pub met_keeps : {old new : List (List ℕ)} {declared : List Declaration} → Met old declared new → Keeps old new
 met_keeps (no_more names) = λ n name at. at
 met_keeps (skips names after declared others none met) = met_keeps met
@@ -50,10 +52,12 @@ met_once old new declared None None at same = rw same (skips old old declared []
 met_once old new declared None (Some n) at is = absurd is
 met_once old new declared (Some name) None at is = absurd is
 met_once old new declared (Some name) (Some n) at (known same there) =
-    rw same (known_name old old name.now declared [] at (n, slice_get_within old n name.now there, get_or_from_slice_get old n name.now name.now there) (no_more old))
+    let is_there : Contains old name.now = (n, slice_get_within old n name.now there, get_or_from_slice_get old n name.now name.now there) in
+    rw same (known_name old old name.now declared [] at is_there (no_more old))
 met_once old new declared (Some name) (Some n) at (added absent more number) =
     rw more (added_name old (old ++ name.now ∷ []) name.now declared [] at absent (no_more (old ++ name.now ∷ [])))
 
+-- what is numbered is the name's number
 pub is_number : (old new : List (List ℕ)) (name : Option (Bor (List ℕ))) (number : Option ℕ) → IsNumber old new name number
     → IsTokenNumber new (name_of name) number
 is_number old new None None same = tt

@@ -1,5 +1,5 @@
 -- The walk over a text from scan to scan, and what it has written on the way.
-use Rattle.std.proofs.Common.{◌≡◌, ℕ, ◌+◌, ◌<◌, ◌≤◌, List, [], ◌∷◌, ◌++◌, length, Some, slice_get, flat_map, refl, ap, ◌∙◌, append_assoc, drop, arith, length-drop}
+use Rattle.std.proofs.Common.{◌≡◌, ℕ, ◌+◌, ◌<◌, ◌≤◌, List, [], ◌∷◌, ◌++◌, length, Some, slice_get, flat_map, ap, ◌∙◌, append_assoc, drop, arith, length-drop}
 use Rattle.std.proofs.lemmas.List.{append-nil, flat_map_more}
 use Rattle.rex_model.specs.Run.{Scans, Token, Tokens, Ending, finished, bad_at}
 use Rattle.rex_model.specs.Winner.{Candidate}

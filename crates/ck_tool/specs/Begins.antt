@@ -1,5 +1,5 @@
--- What stands at the beginning of a line or of a class, with what follows it.
-use Rattle.std.specs.Prelude.{◌≡◌, ℕ, ◌+◌, ◌<◌, ◌≤◌, ◌⊎◌, List, [], ◌∷◌, length, take, drop, Some, slice_get}
+-- What a line or the inside of a class begins with, and the bytes that a span adds to a set.
+use Rattle.std.specs.Prelude.{◌≡◌, ℕ, ◌+◌, ◌<◌, ◌≤◌, ◌⊎◌, List, ◌∷◌, length, take, drop, Some, slice_get}
 use Rattle.rex_model.specs.Language.{IsIn}
 use Rattle.ck_tool.specs.LineTokens.{Span, Spans, Lexeme, LineTokens}
 

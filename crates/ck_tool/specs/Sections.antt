@@ -1,5 +1,5 @@
 -- Which lines stand between REX and END.
-use Rattle.std.specs.Prelude.{◌≡◌, ℕ, ◌<◌, List, [], ◌∷◌, ◌++◌, length, Some, slice_get, codes}
+use Rattle.std.specs.Prelude.{◌≡◌, ℕ, List, [], ◌∷◌, ◌++◌, Some, slice_get, codes}
 use Rattle.ck_tool.specs.LineTokens.{word, LineTokens}
 use Rattle.ck_tool.specs.declared.line.SpecLine.{SpecLine}
 

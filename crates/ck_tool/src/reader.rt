@@ -55,7 +55,7 @@ fn rules_of<'a>(
     let mut rules = Vec::new(alloc);
     for line in lines {
         let rule = read_rule(alloc, arena, line, &mut tokens)?;
-        rules.push(rule).map_err(NoMemory::from)?;
+        rules.push(rule)?;
     }
     Ok((tokens, rules))
 }

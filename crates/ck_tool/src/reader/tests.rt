@@ -4,7 +4,7 @@ use std::test::Fail;
 /// A specification has at most this many bytes.
 const SPEC_LIMIT: usize = 1_048_576;
 
-/// The fault of a specification, as its line and its kind; none where it is read, or memory wants.
+/// The fault of a specification, as its line and its kind; none where it is read, or memory is wanting.
 fn fault_of(alloc: Global, spec: &[u8]) -> Option<(u32, Kind)> {
     if spec.len() > SPEC_LIMIT {
         return None;
