@@ -49,6 +49,17 @@ fn ends_in(
 }
 
 #[test]
+fn ample_memory_answers(rt: HostRuntime) -> Result<(), Fail> {
+    let files = [SIGNS.as_bytes(), b"if iffy <= < =".as_slice()];
+    let out =
+        "1:1 IF \"if\"\n1:4 ID \"iffy\"\n1:9 LE \"<=\"\n1:12 LT \"<\"\n1:14 EQ \"=\"\n1:15 END\n";
+    let words = "tokens s x";
+    let holds = ends_in(rt.alloc(), words, &files, &[0, 0], out, "", Status::Done)?;
+    assert!(rt; holds);
+    Ok(())
+}
+
+#[test]
 fn tokens_are_printed_with_their_places(rt: HostRuntime) -> Result<(), Fail> {
     for (spec, source, out) in [
         (
