@@ -37,7 +37,7 @@ by_refusal : (words : List (List ℕ)) (wants : List ℕ → Type 0) (rose : Lis
     → AreRight words → IsOfText r → Kept out
     → Tells (line_of r) (status_of r) err ends ⊎ Tells (codes "out of memory") status.Memory err ends → Ran words wants rose out err ends
 by_refusal words wants rose out err ends r right of_text kept (inr tells) = by_memory words wants rose out err ends right kept tells
-by_refusal words wants rose out err _ r right of_text kept (inl (cut part)) = refusal_cut right r kept part
+by_refusal words wants rose out err _ r right of_text kept (inl (cut part)) = refusal_cut right r of_text kept part
 by_refusal words wants rose out err _ r right (inl of_spec) kept (inl (told gained)) =
     rw of_spec (spec_refused right r of_spec kept gained)
 by_refusal words wants rose out err _ r right (inr of_source) kept (inl (told gained)) =
@@ -87,7 +87,7 @@ Ran-map words wants wants' rose rose' out err _ f g (reading name names failed k
     reading other.0 other.1 other.2 kept tells
 Ran-map words wants wants' rose rose' out err _ f g (writing output wanted part tells) = writing output (f output wanted) part tells
 Ran-map words wants wants' rose rose' out err _ f g (usage_cut wrong kept part) = usage_cut wrong kept part
-Ran-map words wants wants' rose rose' out err _ f g (refusal_cut right r kept part) = refusal_cut right r kept part
+Ran-map words wants wants' rose rose' out err _ f g (refusal_cut right r of_text kept part) = refusal_cut right r of_text kept part
 Ran-map words wants wants' rose rose' out err _ f g (memory_cut right kept part) = memory_cut right kept part
 
 -- what was found is what is wanted, or a file failed
@@ -117,7 +117,7 @@ Usage-only words wants rose out err _ (memory right kept gained) e = cc
 Usage-only words wants rose out err _ (reading name names failed kept tells) e = cc
 Usage-only words wants rose out err _ (writing output wanted part tells) e = cc
 Usage-only words wants rose out err _ (usage_cut wrong kept part) e = wrong
-Usage-only words wants rose out err _ (refusal_cut right r kept part) e = cc
+Usage-only words wants rose out err _ (refusal_cut right r of_text kept part) e = cc
 Usage-only words wants rose out err _ (memory_cut right kept part) e = cc
 
 -- status 1 never comes where the words are right

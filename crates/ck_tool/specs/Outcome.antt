@@ -10,6 +10,7 @@ use Rattle.ck_io.specs.Faults.{Rose}
 use Rattle.rex_model.specs.Run.{Token, Tokens, finished}
 use Rattle.rex_model.specs.declared.rules.ScanRules.{ScanRules}
 use Rattle.ck_tool.specs.Declares.{DeclaresRules}
+use Rattle.ck_tool.specs.Stops.{IsOfText}
 use Rattle.ck_tool.specs.TokenText.{tokens_text}
 use Rattle.ck_tool.specs.Words.{AreTokens, AreRight}
 
@@ -85,7 +86,7 @@ pub data Ran (words : List (List ℕ)) (wants : List ℕ → Type 0) (rose : Lis
   -- `err` failed within the line of wrong words, of a refusal, of want of memory
   usage_cut : (AreRight words → ⊥) → Kept out → GainedPart err (ended (line_of refusal.Usage))
       → Ran words wants rose out err status.Device
-  refusal_cut : AreRight words → (r : Refusal) → Kept out → GainedPart err (ended (line_of r))
+  refusal_cut : AreRight words → (r : Refusal) → IsOfText r → Kept out → GainedPart err (ended (line_of r))
       → Ran words wants rose out err status.Device
   memory_cut : AreRight words → Kept out → GainedPart err (ended (codes "out of memory"))
       → Ran words wants rose out err status.Device
