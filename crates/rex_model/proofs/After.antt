@@ -13,7 +13,7 @@ AfterIn (b ∷ bs) k p w = ((p ≡ k) × (w ≡ bs)) ⊎ AfterIn bs (k + 1) p w
 abbrev pub After : Re → ℕ → ℕ → List ℕ → Type 0
 After none k p w = ⊥
 After (bytes string) k p w = AfterIn string k p w
-After (class words) k p w = (p ≡ k) × (w ≡ [])
+After (class set) k p w = (p ≡ k) × (w ≡ [])
 After (sequence r s) k p w =
     ((u : List ℕ) × (v : List ℕ) × (w ≡ u ++ v) × After r k p u × Language s v) ⊎ After s (k + position_count r) p w
 After (alternative r s) k p w = After r k p w ⊎ After s (k + position_count r) p w
@@ -33,7 +33,7 @@ AfterIn-within (b ∷ bs) k p w (inr h) =
 pub After-within : (r : Re) (k p : ℕ) (w : List ℕ) → After r k p w → IsAmong k (position_count r) p
 After-within none k p w h = elim h [ ]
 After-within (bytes string) k p w h = AfterIn-within string k p w h
-After-within (class words) k p w h = record { from = omega arith; below = omega arith }
+After-within (class set) k p w h = record { from = omega arith; below = omega arith }
 After-within (sequence r s) k p w (inl (u, v, is, after, second)) = among_first k _ _ p (After-within r k p u after)
 After-within (sequence r s) k p w (inr h) = among_second k _ _ p (After-within s _ p w h)
 After-within (alternative r s) k p w (inl h) = among_first k _ _ p (After-within r k p w h)

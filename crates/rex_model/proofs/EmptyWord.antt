@@ -36,7 +36,7 @@ pub empty_of : (r : Re) → Language r [] → has_empty r ≡ true
 empty_of none h = elim h [ ]
 empty_of (bytes []) h = refl
 empty_of (bytes (b ∷ bs)) h = cc
-empty_of (class words) (byte, is, among) = cc
+empty_of (class set) (byte, is, among) = cc
 empty_of (sequence r s) (u, v, is, first, second) =
     let e = both_empty u v is in
     and_from _ _ (empty_of r (rw e.0 at first)) (empty_of s (rw e.1 at second))
@@ -53,7 +53,7 @@ pub has_empty_of : (r : Re) → has_empty r ≡ true → Language r []
 has_empty_of none h = (cc)
 has_empty_of (bytes []) h = refl
 has_empty_of (bytes (b ∷ bs)) h = (cc)
-has_empty_of (class words) h = (cc)
+has_empty_of (class set) h = (cc)
 has_empty_of (sequence r s) h =
     let e = and_parts (has_empty r) (has_empty s) h in
     ([], [], refl, has_empty_of r e.0, has_empty_of s e.1)

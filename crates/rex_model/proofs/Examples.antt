@@ -1,30 +1,31 @@
 -- Languages, positions and places, tried on cases that are worked by hand.
-use Rattle.std.proofs.Common.{◌≡◌, ℕ, ◌^◌, List, [], ◌∷◌, ◌++◌, refl, subst, arith, inl, inr}
+use Rattle.std.proofs.Common.{◌≡◌, ℕ, ◌^◌, Bool, true, List, [], ◌∷◌, ◌++◌, refl, subst, arith, inl, inr}
 use Rattle.std.specs.Prelude.{codes}
 use Rattle.rex_model.specs.Language.{Re, bytes, class, sequence, star, plus, optional, IsIn, no_more, one_more, Language}
+use Rattle.rex_model.specs.Meaning.{set_of}
 use Rattle.rex_model.specs.Place.{line_at, column_at}
 use Rattle.rex_model.specs.Positions.{position_count, First, Last, Follow}
 use Rattle.rex_model.proofs.EmptyWord.{both_empty, empty_of}
 use Rattle.rex_model.proofs.WordsToPositions.{first_round}
 
 -- the class of one letter a: bit 97 of four words
-abbrev only_a : List ℕ
-only_a = 0 ∷ 2 ^ 33 ∷ 0 ∷ 0 ∷ []
+abbrev only_a : ℕ → Bool
+only_a = set_of (0 ∷ 2 ^ 33 ∷ 0 ∷ 0 ∷ [])
 
 -- the class of one letter b
-abbrev only_b : List ℕ
-only_b = 0 ∷ 2 ^ 34 ∷ 0 ∷ 0 ∷ []
+abbrev only_b : ℕ → Bool
+only_b = set_of (0 ∷ 2 ^ 34 ∷ 0 ∷ 0 ∷ [])
 
 -- a is in the class of a
 a_is_in : IsIn only_a 97
-a_is_in = (omega arith, λ e. cc)
+a_is_in = (omega arith, refl)
 
 -- b isn't in the class of a
 b_is_not_in : IsIn only_a 98 → ⊥
-b_is_not_in h = h.1 refl
+b_is_not_in h = let e = h.1 in cc
 
--- no number past the bytes is in a class
-past_bytes : IsIn only_a 353 → ⊥
+-- no number past the bytes is in a class, whatever its test says of it
+past_bytes : IsIn (λ byte. true) 353 → ⊥
 past_bytes h = omega arith
 
 -- one a, then any number of b
@@ -38,7 +39,7 @@ ab_is_a_word = (
   codes "b",
   refl,
   (97, refl, a_is_in),
-  one_more (codes "b") [] (98, refl, (omega arith, λ e. cc)) no_more,
+  one_more (codes "b") [] (98, refl, (omega arith, refl)) no_more,
 )
 
 -- so is "a"

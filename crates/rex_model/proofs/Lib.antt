@@ -1,5 +1,6 @@
 mod Adding
 pub mod After
+pub mod AlikeRules
 mod BestOfRules
 pub mod Comes
 pub mod EmptyWord

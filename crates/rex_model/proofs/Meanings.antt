@@ -1,7 +1,7 @@
 -- The equations of `meaning` for each kind of expression. Crates that build expressions cite them, too.
 use Rattle.std.proofs.Common.{◌≡◌, ℕ, List, map, Bor, sym, ap, ◌∙◌}
 use Rattle.rex_model.specs.Language.{Re, bytes, class, star, plus, optional}
-use Rattle.rex_model.specs.Meaning.{meaning, node_meaning, sequence_of, alternative_of}
+use Rattle.rex_model.specs.Meaning.{meaning, node_meaning, sequence_of, alternative_of, set_of}
 use Rattle.rex_model.specs.declared.regex.Regex.{Regex}
 use Rattle.rex_model.specs.declared.regex.Regex.TheOpen.{Regex-F}
 use Rattle.rex_model.specs.declared.regex.Regex.TheFolds.{fold-roll-Regex}
@@ -10,7 +10,7 @@ use Rattle.rex_model.specs.declared.regex.Regex.TheVariants.{Bytes, Class, Seq, 
 pub meaning-Bytes : (string : Bor (List ℕ)) → meaning (Bytes string) ≡ bytes string.now
 meaning-Bytes string = ap meaning (sym (rolls-Bytes string)) ∙ fold-roll-Regex Re node_meaning (Regex-F.Bytes string)
 
-pub meaning-Class : (words : List ℕ) → meaning (Class words) ≡ class words
+pub meaning-Class : (words : List ℕ) → meaning (Class words) ≡ class (set_of words)
 meaning-Class words = ap meaning (sym (rolls-Class words)) ∙ fold-roll-Regex Re node_meaning (Regex-F.Class words)
 
 pub meaning-Seq : (parts : Bor (List Regex)) → meaning (Seq parts) ≡ sequence_of (map meaning parts.now)

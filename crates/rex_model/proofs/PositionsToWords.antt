@@ -43,7 +43,7 @@ pub comes_first : (r : Re) (k p b : ℕ) (w : List ℕ) → First r k p → Take
     → Language r (b ∷ w)
 comes_first none k p b w begins takes after = elim begins [ ]
 comes_first (bytes string) k p b w begins takes after = comes_first_in string k p b w begins.0 takes after
-comes_first (class words) k p b w begins takes after = (b, ap (λ x. b ∷ x) after.1, takes.1)
+comes_first (class set) k p b w begins takes after = (b, ap (λ x. b ∷ x) after.1, takes.1)
 comes_first (sequence r s) k p b w (inl begins) takes after =
     let i = First-within r k p begins in
     let taken = takes_first r s k p b i takes in
@@ -80,7 +80,7 @@ ended_in (c ∷ d ∷ cs) k p from at = inr (ended_in (d ∷ cs) (k + 1) p (omeg
 pub ended : (r : Re) (k p : ℕ) → Last r k p → After r k p []
 ended none k p h = elim h [ ]
 ended (bytes string) k p h = ended_in string k p h.0 h.1
-ended (class words) k p h = (h, refl)
+ended (class set) k p h = (h, refl)
 ended (sequence r s) k p (inl h) = inr (ended s _ p h)
 ended (sequence r s) k p (inr (empty, h)) = inl ([], [], refl, ended r k p h, has_empty_of s empty)
 ended (alternative r s) k p (inl h) = inl (ended r k p h)
@@ -109,7 +109,7 @@ pub comes_on : (r : Re) (k p q b : ℕ) (w : List ℕ) → Follow r k p q → Ta
 comes_on none k p q b w follows takes after = elim follows [ ]
 comes_on (bytes string) k p q b w follows takes after =
     comes_on_in string k p q b w follows.0 follows.1 takes after
-comes_on (class words) k p q b w follows takes after = elim follows [ ]
+comes_on (class set) k p q b w follows takes after = elim follows [ ]
 comes_on (sequence r s) k p q b w (inl follows) takes after =
     let i = (Follow-within r k p q follows).1 in
     let taken = takes_first r s k q b i takes in

@@ -1,10 +1,10 @@
 -- The rules of a scanner, tried on cases that are worked by hand: names and a keyword.
-use Rattle.std.proofs.Common.{◌≡◌, ℕ, zero, suc, ◌+◌, ◌-◌, ◌<◌, ◌≤◌, ◌^◌, List, [], ◌∷◌, length, take, drop, Some, None, slice_get, refl, ap, ◌∙◌, subst, arith, length-take, length-drop}
+use Rattle.std.proofs.Common.{◌≡◌, ℕ, zero, suc, Bool, ◌+◌, ◌-◌, ◌<◌, ◌≤◌, ◌^◌, List, [], ◌∷◌, length, take, drop, Some, None, slice_get, refl, ap, ◌∙◌, subst, arith, length-take, length-drop}
 use Rattle.std.specs.Prelude.{codes}
 use Rattle.std.specs.Borrow.{Bor}
 use Rattle.ck_base.specs.BitSet.{Has}
 use Rattle.rex_model.specs.Language.{bytes, class, sequence, plus, IsIn, Repeats, no_more, one_more, Language}
-use Rattle.rex_model.specs.Meaning.{meaning}
+use Rattle.rex_model.specs.Meaning.{meaning, set_of}
 use Rattle.rex_model.specs.Run.{Tokens, end, bad, token, skip, finished, bad_at}
 use Rattle.rex_model.specs.Winner.{InContext, Candidate, Winner, HasNoCandidate}
 use Rattle.rex_model.specs.declared.regex.Regex.{Regex}
@@ -20,6 +20,10 @@ at x = record { ref_ptr = (0, 0); now = x }
 abbrev a_to_z : List ℕ
 a_to_z = 0 ∷ (2 ^ 59 - 2 ^ 33) ∷ 0 ∷ 0 ∷ []
 
+-- the same as a set of bytes
+abbrev letters : ℕ → Bool
+letters = set_of a_to_z
+
 -- the expression of a name: one letter or more
 abbrev name : Regex
 name = regex.Plus (at (regex.Class a_to_z))
@@ -29,7 +33,7 @@ abbrev keyword : Regex
 keyword = regex.Bytes (at (codes "if"))
 
 -- a name is one or more letters
-name_meaning : meaning name ≡ plus (class a_to_z)
+name_meaning : meaning name ≡ plus (class letters)
 name_meaning = meaning-Plus (at (regex.Class a_to_z)) ∙ ap plus (meaning-Class a_to_z)
 
 -- the keyword is "if"
@@ -88,21 +92,21 @@ abbrev keyword_first : List ScanRule
 keyword_first = rule_of keyword 1 ∷ rule_of name 0 ∷ []
 
 -- one of the letters before a word of letters
-letter : (b : ℕ) (w : List ℕ) → IsIn a_to_z b → Repeats (Language (class a_to_z)) w
-    → Repeats (Language (class a_to_z)) (b ∷ w)
+letter : (b : ℕ) (w : List ℕ) → IsIn letters b → Repeats (Language (class letters)) w
+    → Repeats (Language (class letters)) (b ∷ w)
 letter b w among more = one_more (b ∷ []) w (b, refl, among) more
 
 -- i is a letter
-i_is_in : IsIn a_to_z 105
-i_is_in = (omega arith, λ e. cc)
+i_is_in : IsIn letters 105
+i_is_in = (omega arith, refl)
 
 -- f is a letter
-f_is_in : IsIn a_to_z 102
-f_is_in = (omega arith, λ e. cc)
+f_is_in : IsIn letters 102
+f_is_in = (omega arith, refl)
 
 -- y is a letter
-y_is_in : IsIn a_to_z 121
-y_is_in = (omega arith, λ e. cc)
+y_is_in : IsIn letters 121
+y_is_in = (omega arith, refl)
 
 -- "if" is a name
 if_is_a_name : Language (meaning name) (codes "if")
@@ -194,7 +198,7 @@ x_before_if = record {
     some = omega arith;
     fits = omega arith;
     within = omega arith;
-    body = rw name_meaning (codes "x", [], refl, (120, refl, (omega arith, λ e. cc)), no_more);
+    body = rw name_meaning (codes "x", [], refl, (120, refl, (omega arith, refl)), no_more);
     context = if_is_a_keyword;
   };
   longest = λ j k l c. c.within;

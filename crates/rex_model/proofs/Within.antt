@@ -33,7 +33,7 @@ TakesIn-within (b ∷ bs) k p byte (inr h) =
 pub Takes-within : (r : Re) (k p byte : ℕ) → Takes r k p byte → IsAmong k (position_count r) p
 Takes-within none k p byte h = elim h [ ]
 Takes-within (bytes string) k p byte h = TakesIn-within string k p byte h
-Takes-within (class words) k p byte h = record { from = omega arith; below = omega arith }
+Takes-within (class set) k p byte h = record { from = omega arith; below = omega arith }
 Takes-within (sequence r s) k p byte (inl h) = among_first k _ _ p (Takes-within r k p byte h)
 Takes-within (sequence r s) k p byte (inr h) = among_second k _ _ p (Takes-within s _ p byte h)
 Takes-within (alternative r s) k p byte (inl h) = among_first k _ _ p (Takes-within r k p byte h)
@@ -46,7 +46,7 @@ Takes-within (optional r) k p byte h = Takes-within r k p byte h
 pub First-within : (r : Re) (k p : ℕ) → First r k p → IsAmong k (position_count r) p
 First-within none k p h = elim h [ ]
 First-within (bytes string) k p h = record { from = omega arith; below = omega arith }
-First-within (class words) k p h = record { from = omega arith; below = omega arith }
+First-within (class set) k p h = record { from = omega arith; below = omega arith }
 First-within (sequence r s) k p (inl h) = among_first k _ _ p (First-within r k p h)
 First-within (sequence r s) k p (inr (empty, h)) = among_second k _ _ p (First-within s _ p h)
 First-within (alternative r s) k p (inl h) = among_first k _ _ p (First-within r k p h)
@@ -59,7 +59,7 @@ First-within (optional r) k p h = First-within r k p h
 pub Last-within : (r : Re) (k p : ℕ) → Last r k p → IsAmong k (position_count r) p
 Last-within none k p h = elim h [ ]
 Last-within (bytes string) k p h = record { from = omega arith; below = omega arith }
-Last-within (class words) k p h = record { from = omega arith; below = omega arith }
+Last-within (class set) k p h = record { from = omega arith; below = omega arith }
 Last-within (sequence r s) k p (inl h) = among_second k _ _ p (Last-within s _ p h)
 Last-within (sequence r s) k p (inr (empty, h)) = among_first k _ _ p (Last-within r k p h)
 Last-within (alternative r s) k p (inl h) = among_first k _ _ p (Last-within r k p h)
@@ -74,7 +74,7 @@ pub Follow-within : (r : Re) (k p q : ℕ) → Follow r k p q
 Follow-within none k p q h = elim h [ ]
 Follow-within (bytes string) k p q h =
     (record { from = omega arith; below = omega arith }, record { from = omega arith; below = omega arith })
-Follow-within (class words) k p q h = elim h [ ]
+Follow-within (class set) k p q h = elim h [ ]
 Follow-within (sequence r s) k p q (inl h) =
     let i = Follow-within r k p q h in
     (among_first k _ _ p i.0, among_first k _ _ q i.1)

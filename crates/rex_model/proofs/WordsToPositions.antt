@@ -21,9 +21,9 @@ pub goes_first : (r : Re) (k b : ℕ) (w : List ℕ) → Language r (b ∷ w)
 goes_first none k b w h = elim h [ ]
 goes_first (bytes []) k b w h = (cc)
 goes_first (bytes (c ∷ cs)) k b w h = (k, (refl, omega arith), inl (refl, (cc)), inl (refl, (cc)))
-goes_first (class words) k b w (byte, is, among) =
+goes_first (class set) k b w (byte, is, among) =
     let same : byte ≡ b = cc in
-    (k, refl, (refl, subst (λ x. IsIn words x) same among), (refl, (cc)))
+    (k, refl, (refl, subst (λ x. IsIn set x) same among), (refl, (cc)))
 goes_first (sequence r s) k b w ([], v, is, first, second) =
     let (p, begins, takes, after) = goes_first s (k + position_count r) b w (rw is second) in
     (p, inr (empty_of r first, begins), inr takes, inr after)
@@ -65,7 +65,7 @@ ends_in (c ∷ cs) k p (inr h) = let e = ends_in cs (k + 1) p h in (omega arith,
 pub ends : (r : Re) (k p : ℕ) → After r k p [] → Last r k p
 ends none k p h = elim h [ ]
 ends (bytes string) k p h = ends_in string k p h
-ends (class words) k p h = h.0
+ends (class set) k p h = h.0
 ends (sequence r s) k p (inl (u, v, is, after, second)) =
     let e = both_empty u v is in
     inr (empty_of s (rw e.1 at second), ends r k p (rw e.0 at after))
@@ -92,7 +92,7 @@ pub goes_on : (r : Re) (k p b : ℕ) (w : List ℕ) → After r k p (b ∷ w)
     → (q : ℕ) × Follow r k p q × Takes r k q b × After r k q w
 goes_on none k p b w h = elim h [ ]
 goes_on (bytes string) k p b w h = goes_on_in string k p b w h
-goes_on (class words) k p b w h = let e = h.1 in cc
+goes_on (class set) k p b w h = let e = h.1 in cc
 goes_on (sequence r s) k p b w (inl ([], v, is, after, second)) =
     let (q, begins, takes, more) = goes_first s (k + position_count r) b w (rw is second) in
     (q, inr (inr (ends r k p after, begins)), inr takes, inr more)

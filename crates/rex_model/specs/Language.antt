@@ -1,13 +1,13 @@
 -- The language of a regular expression: the set of its words.
-use Rattle.std.specs.Prelude.{◌≡◌, ℕ, ◌<◌, ◌/◌, ◌%◌, ◌⊎◌, List, [], ◌∷◌, ◌++◌, slice_index, IsBitSet}
+use Rattle.std.specs.Prelude.{◌≡◌, ℕ, ◌<◌, ◌⊎◌, Bool, IsTrue, List, [], ◌∷◌, ◌++◌}
 
 -- a regular expression; sequences and alternatives have two parts
 pub data Re : Type 0 where
   -- no word at all
   none : Re
   bytes : List ℕ → Re
-  -- a set of bytes, as four words of 64 bits
-  class : List ℕ → Re
+  -- a set of bytes, which tells of each byte whether it is in
+  class : (ℕ → Bool) → Re
   sequence : Re → Re → Re
   alternative : Re → Re → Re
   star : Re → Re
@@ -15,8 +15,8 @@ pub data Re : Type 0 where
   optional : Re → Re
 
 -- the byte is in the set
-abbrev pub IsIn : List ℕ → ℕ → Type 0
-IsIn words byte = (byte < 256) × IsBitSet (slice_index words (byte / 64)) (byte % 64)
+abbrev pub IsIn : (ℕ → Bool) → ℕ → Type 0
+IsIn set byte = (byte < 256) × IsTrue (set byte)
 
 -- any number of words of a language, one after the other
 pub data Repeats (words : List ℕ → Type 0) : List ℕ → Type 0 where
@@ -27,7 +27,7 @@ pub data Repeats (words : List ℕ → Type 0) : List ℕ → Type 0 where
 abbrev pub Language : Re → List ℕ → Type 0
 Language none w = ⊥
 Language (bytes string) w = w ≡ string
-Language (class words) w = (byte : ℕ) × (w ≡ byte ∷ []) × IsIn words byte
+Language (class set) w = (byte : ℕ) × (w ≡ byte ∷ []) × IsIn set byte
 Language (sequence r s) w = (u : List ℕ) × (v : List ℕ) × (w ≡ u ++ v) × Language r u × Language s v
 Language (alternative r s) w = Language r w ⊎ Language s w
 Language (star r) w = Repeats (Language r) w

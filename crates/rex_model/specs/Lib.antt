@@ -1,3 +1,4 @@
+pub mod Alike
 pub mod Best
 pub mod Language
 pub mod Longest

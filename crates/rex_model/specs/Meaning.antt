@@ -1,5 +1,5 @@
 -- What an expression of the program means as a regular expression.
-use Rattle.std.specs.Prelude.{List, [], ◌∷◌}
+use Rattle.std.specs.Prelude.{ℕ, ◌^◌, ◌/◌, ◌%◌, ◌==◌, Bool, not, List, [], ◌∷◌, bit_and, slice_index}
 use Rattle.rex_model.specs.Language.{Re, none, bytes, class, sequence, alternative, star, plus, optional}
 use Rattle.rex_model.specs.declared.regex.Regex.{Regex}
 use Rattle.rex_model.specs.declared.regex.Regex.TheOpen.{Regex-F}
@@ -15,10 +15,14 @@ abbrev pub alternative_of : List Re → Re
 alternative_of [] = none
 alternative_of (r ∷ rs) = alternative r (alternative_of rs)
 
+-- the set of bytes of four words of 64 bits: byte b is in it where bit b % 64 of word b / 64 is set
+abbrev pub set_of : List ℕ → ℕ → Bool
+set_of words byte = not (bit_and (slice_index words (byte / 64)) (2 ^ (byte % 64)) == 0)
+
 -- the meaning of an expression from those of its parts
 abbrev pub node_meaning : Regex-F Re → Re
 node_meaning (Regex-F.Bytes string) = bytes string.now
-node_meaning (Regex-F.Class words) = class words
+node_meaning (Regex-F.Class words) = class (set_of words)
 node_meaning (Regex-F.Seq parts) = sequence_of parts.now
 node_meaning (Regex-F.Alt parts) = alternative_of parts.now
 node_meaning (Regex-F.Star part) = star part.now

@@ -8,7 +8,7 @@ use Rattle.rex_model.specs.Language.{Re, none, bytes, class, sequence, alternati
 abbrev pub position_count : Re → ℕ
 position_count none = 0
 position_count (bytes string) = length string
-position_count (class words) = 1
+position_count (class set) = 1
 position_count (sequence r s) = position_count r + position_count s
 position_count (alternative r s) = position_count r + position_count s
 position_count (star r) = position_count r
@@ -20,7 +20,7 @@ abbrev pub has_empty : Re → Bool
 has_empty none = false
 has_empty (bytes []) = true
 has_empty (bytes (b ∷ bs)) = false
-has_empty (class words) = false
+has_empty (class set) = false
 has_empty (sequence r s) = has_empty r && has_empty s
 has_empty (alternative r s) = has_empty r || has_empty s
 has_empty (star r) = true
@@ -36,7 +36,7 @@ TakesIn (b ∷ bs) k p byte = ((p ≡ k) × (byte ≡ b)) ⊎ TakesIn bs (k + 1)
 abbrev pub Takes : Re → ℕ → ℕ → ℕ → Type 0
 Takes none k p byte = ⊥
 Takes (bytes string) k p byte = TakesIn string k p byte
-Takes (class words) k p byte = (p ≡ k) × IsIn words byte
+Takes (class set) k p byte = (p ≡ k) × IsIn set byte
 Takes (sequence r s) k p byte = Takes r k p byte ⊎ Takes s (k + position_count r) p byte
 Takes (alternative r s) k p byte = Takes r k p byte ⊎ Takes s (k + position_count r) p byte
 Takes (star r) k p byte = Takes r k p byte
@@ -47,7 +47,7 @@ Takes (optional r) k p byte = Takes r k p byte
 abbrev pub First : Re → ℕ → ℕ → Type 0
 First none k p = ⊥
 First (bytes string) k p = (p ≡ k) × (0 < length string)
-First (class words) k p = p ≡ k
+First (class set) k p = p ≡ k
 First (sequence r s) k p = First r k p ⊎ (IsTrue (has_empty r) × First s (k + position_count r) p)
 First (alternative r s) k p = First r k p ⊎ First s (k + position_count r) p
 First (star r) k p = First r k p
@@ -58,7 +58,7 @@ First (optional r) k p = First r k p
 abbrev pub Last : Re → ℕ → ℕ → Type 0
 Last none k p = ⊥
 Last (bytes string) k p = (k ≤ p) × (p + 1 ≡ k + length string)
-Last (class words) k p = p ≡ k
+Last (class set) k p = p ≡ k
 Last (sequence r s) k p = Last s (k + position_count r) p ⊎ (IsTrue (has_empty s) × Last r k p)
 Last (alternative r s) k p = Last r k p ⊎ Last s (k + position_count r) p
 Last (star r) k p = Last r k p
@@ -69,7 +69,7 @@ Last (optional r) k p = Last r k p
 abbrev pub Follow : Re → ℕ → ℕ → ℕ → Type 0
 Follow none k p q = ⊥
 Follow (bytes string) k p q = (k ≤ p) × (q ≡ p + 1) × (q < k + length string)
-Follow (class words) k p q = ⊥
+Follow (class set) k p q = ⊥
 Follow (sequence r s) k p q =
     Follow r k p q ⊎ (Follow s (k + position_count r) p q ⊎ (Last r k p × First s (k + position_count r) q))
 Follow (alternative r s) k p q = Follow r k p q ⊎ Follow s (k + position_count r) p q

@@ -1,4 +1,5 @@
 ghost use Rattle.std.specs.Prelude.{◌≡◌, ℕ, List};
+ghost use Rattle.rex_model.specs.Alike.{AreAlike};
 ghost use Rattle.rex_model.specs.Run.{Token, Ending, Tokens};
 ghost use Rattle.rex_model.specs.Winner.{Winner};
 
@@ -16,4 +17,10 @@ pub fn at_most_one_run(rules: &ScanRules, text: &[u8], state: u32, at: usize)
     ensures { (ts us : List Token) (e f : Ending) →
         Tokens rules.now.rules.items text.now state at ts e → Tokens rules.now.rules.items text.now state at us f →
         (ts ≡ us) × (e ≡ f) }
+{}
+
+/// Law: rules that say the same give a text the same tokens, wherever their expressions lie.
+pub fn alike_rules_scan_alike(a: &ScanRules, b: &ScanRules, text: &[u8], state: u32, at: usize)
+    ensures { (ts : List Token) (e : Ending) → AreAlike a.now.rules.items b.now.rules.items →
+        Tokens a.now.rules.items text.now state at ts e → Tokens b.now.rules.items text.now state at ts e }
 {}

@@ -11,6 +11,7 @@
 //! | the positions that come next | `src/sets.rt`; `specs/Positions.antt` |
 //! | the longest word of one rule | `src/longest.rt`; `specs/Longest.antt` |
 //! | the winner of all rules, and what a scan answers | `src/winner.rt`; `specs/Best.antt` |
+//! | rules that say the same | `specs/Alike.antt` |
 //! | laws over the definitions | `src/laws.rt` |
 #![tactic(auto)]
 
@@ -28,7 +29,7 @@ mod winner;
 
 pub use counts::positions;
 pub use empty_word::nullable;
-pub use laws::{at_most_one_run, at_most_one_winner};
+pub use laws::{alike_rules_scan_alike, at_most_one_run, at_most_one_winner};
 pub use regex::Regex;
 pub use rules::{ScanRule, ScanRules};
 pub use scan::Scan;

@@ -1,7 +1,7 @@
 ghost use Rattle.std.specs.Prelude.{◌≡◌, ◌↔◌, ◌⊎◌, ◌+◌, ◌^◌, ◌<◌, ◌≤◌, IsTrue, length, map, slice_index};
 ghost use Rattle.ck_base.specs.BitSet.{Adds, Has};
 ghost use Rattle.rex_model.specs.Language.{bytes, star, IsIn};
-ghost use Rattle.rex_model.specs.Meaning.{meaning, sequence_of, alternative_of};
+ghost use Rattle.rex_model.specs.Meaning.{meaning, sequence_of, alternative_of, set_of};
 ghost use Rattle.rex_model.specs.Positions.{position_count, has_empty, First, Moves, Ends};
 
 use crate::counts::positions;
@@ -116,7 +116,7 @@ fn is_taken(string: &[u8], i: usize, k: u32, from: &Bits, byte: u8) -> bool
 
 /// Whether the byte is in the set.
 fn is_in(words: &[u64; 4], byte: u8) -> bool
-    ensures { IsTrue result ↔ IsIn words.now byte }
+    ensures { IsTrue result ↔ IsIn (set_of words.now) byte }
 {
     words[(byte / 64) as usize] & (1 << (byte % 64)) != 0
 }
