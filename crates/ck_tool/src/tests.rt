@@ -1,6 +1,6 @@
 use crate::cocktail;
 use ck_base::{NoMemory, Status};
-use ck_io::{MemFiles, MemSink};
+use ck_io::{Failed, Files, MemFiles, MemSink};
 use std::alloc::Global;
 use std::test::Fail;
 
@@ -23,38 +23,63 @@ const READ_FAULT: &str = "device: read fault\n";
 const USAGE: &str =
     "usage: cocktail check SPEC | tokens|derive|tree|attrs|ir|labels|run SPEC SOURCE | bench N\n";
 
-/// Whether a command line over the files `s` and `x` writes these bytes and ends in this status. The
-/// sinks take 10 bytes a call. The numbers are those of the calls of `out` and of `err` that fail; 0
-/// is none.
-fn ends_in(
+/// The tokens of `SOURCE` by `SIGNS`.
+const TOKENS: &str =
+    "1:1 IF \"if\"\n1:4 ID \"iffy\"\n1:9 LE \"<=\"\n1:12 LT \"<\"\n1:14 EQ \"=\"\n1:15 END\n";
+/// A name, a keyword and signs.
+const SOURCE: &str = "if iffy <= < =";
+
+/// The files `s` and `x`. The read with this number fails, counted from 1; with 0 none does.
+fn folder(alloc: Global, failing: u64, spec: &[u8], source: &[u8]) -> Result<MemFiles, NoMemory> {
+    let mut files = MemFiles::new(alloc, Vec::from_slice(alloc, &[failing])?);
+    files.add("s", spec)?;
+    files.add("x", source)?;
+    Ok(files)
+}
+
+/// A sink that takes 10 bytes a call. The call with this number fails; with 0 none does.
+fn sink(alloc: Global, failing: u64) -> Result<MemSink, NoMemory> {
+    MemSink::new(alloc, 10, 1000, Vec::from_slice(alloc, &[failing])?)
+}
+
+/// Runs the command line.
+fn run(
     alloc: Global,
     line: &str,
-    files: &[&[u8]; 2],
-    failing: &[u64; 2],
-    out: &str,
-    err: &str,
-    status: Status,
-) -> Result<bool, NoMemory> {
+    files: &mut MemFiles,
+    out: &mut MemSink,
+    err: &mut MemSink,
+) -> Result<Status, NoMemory> {
     let mut words = Vec::new(alloc);
     for word in line.split_whitespace() {
         words.push(String::from_str(alloc, word)?)?;
     }
-    let mut folder = MemFiles::new(alloc, Vec::new(alloc));
-    folder.add("s", files[0])?;
-    folder.add("x", files[1])?;
-    let mut to_out = MemSink::new(alloc, 10, 1000, Vec::from_slice(alloc, &failing[..1])?)?;
-    let mut to_err = MemSink::new(alloc, 10, 1000, Vec::from_slice(alloc, &failing[1..])?)?;
-    let ended = cocktail(alloc, &words, &mut folder, &mut to_out, &mut to_err);
+    Ok(cocktail(alloc, &words, files, out, err))
+}
+
+/// Whether a command line over the files `s` and `x` writes these bytes and ends in this status,
+/// where no device fails.
+fn ends_in(
+    alloc: Global,
+    line: &str,
+    files: &[&[u8]; 2],
+    out: &str,
+    err: &str,
+    status: Status,
+) -> Result<bool, NoMemory> {
+    let mut folder = folder(alloc, 0, files[0], files[1])?;
+    let mut to_out = sink(alloc, 0)?;
+    let mut to_err = sink(alloc, 0)?;
+    let ended = run(alloc, line, &mut folder, &mut to_out, &mut to_err)?;
     Ok(ended == status && to_out.bytes() == out.as_bytes() && to_err.bytes() == err.as_bytes())
 }
 
+mod devices;
+
 #[test]
 fn ample_memory_answers(rt: HostRuntime) -> Result<(), Fail> {
-    let files = [SIGNS.as_bytes(), b"if iffy <= < =".as_slice()];
-    let out =
-        "1:1 IF \"if\"\n1:4 ID \"iffy\"\n1:9 LE \"<=\"\n1:12 LT \"<\"\n1:14 EQ \"=\"\n1:15 END\n";
-    let words = "tokens s x";
-    let holds = ends_in(rt.alloc(), words, &files, &[0, 0], out, "", Status::Done)?;
+    let files = [SIGNS.as_bytes(), SOURCE.as_bytes()];
+    let holds = ends_in(rt.alloc(), "tokens s x", &files, TOKENS, "", Status::Done)?;
     assert!(rt; holds);
     Ok(())
 }
@@ -82,10 +107,13 @@ fn tokens_are_printed_with_their_places(rt: HostRuntime) -> Result<(), Fail> {
         (ANY, "\t\n\r ", "1:1 GAP \"\\x09\\x0a\\x0d \"\n2:3 END\n"),
         (TIGHT, "b^a^c", "1:2 T_1 \"^a^\"\n1:6 END\n"),
         ("REX\nEND", "", "1:1 END\n"),
+        // What is refused with a byte more.
+        (SIGNS, "if ", "1:1 IF \"if\"\n1:4 END\n"),
+        (LINES, "ab\n cd", "1:1 ID \"ab\"\n2:2 ID \"cd\"\n2:4 END\n"),
     ] {
         let files = [spec.as_bytes(), source.as_bytes()];
         let words = "tokens s x";
-        let holds = ends_in(rt.alloc(), words, &files, &[0, 0], out, "", Status::Done)?;
+        let holds = ends_in(rt.alloc(), words, &files, out, "", Status::Done)?;
         assert!(rt; holds, "{source:?} by {spec:?}");
     }
     Ok(())
@@ -137,65 +165,63 @@ fn the_first_refusal_is_told(rt: HostRuntime) -> Result<(), Fail> {
             "source:2:4: bad token\n",
             Status::Source,
         ),
+        // The first of two bad places, which is the first byte.
+        (
+            "tokens s x",
+            LINES,
+            ";;",
+            "source:1:1: bad token\n",
+            Status::Source,
+        ),
+        // The section fault stands behind the line without a shape.
+        (
+            "tokens s x",
+            "REX\nRULE \"if\" TOKEN IF\n",
+            "@",
+            "spec:3: section\n",
+            Status::Spec,
+        ),
+        // The first of two lines without a shape.
+        (
+            "tokens s x",
+            "REX\n\nRULE\nRULE\nEND\n",
+            "@",
+            "spec:3: syntax\n",
+            Status::Spec,
+        ),
     ] {
         let files = [spec.as_bytes(), source.as_bytes()];
-        let holds = ends_in(rt.alloc(), words, &files, &[0, 0], "", err, status)?;
+        let holds = ends_in(rt.alloc(), words, &files, "", err, status)?;
         assert!(rt; holds, "{words}: {source:?} by {spec:?}");
     }
     Ok(())
 }
 
-#[test]
-fn a_failing_sink_ends_the_run(rt: HostRuntime) -> Result<(), Fail> {
-    let files = [SIGNS.as_bytes(), b"if".as_slice()];
-    for (words, failing, out, err) in [
-        ("", [0, 1], "", ""),
-        ("tokens s none", [0, 2], "", "device: re"),
-        ("tokens s x", [2, 0], "1:1 IF \"if", "device: write fault\n"),
-        ("tokens s x", [1, 1], "", ""),
-    ] {
-        let holds = ends_in(
-            rt.alloc(),
-            words,
-            &files,
-            &failing,
-            out,
-            err,
-            Status::Device,
-        )?;
-        assert!(rt; holds, "{words}: {failing:?}");
-    }
-    Ok(())
+/// The specification, and behind it line feeds up to this many bytes.
+fn padded(alloc: Global, spec: &str, size: usize) -> Result<Vec<u8>, NoMemory> {
+    let mut bytes = Vec::from_slice(alloc, spec.as_bytes())?;
+    let feeds = vec![in alloc; b'\n'; size.saturating_sub(bytes.len())]?;
+    bytes.extend_from_slice(feeds.as_slice())?;
+    Ok(bytes)
 }
 
 #[test]
-fn texts_past_their_limits_are_refused(rt: HostRuntime) -> Result<(), Fail> {
-    for (spec_size, source_size, err, status) in [
-        (
-            1_048_577,
-            0,
-            "spec: longer than 1048576 bytes\n",
-            Status::Spec,
-        ),
-        (
-            0,
-            4_194_305,
-            "source: longer than 4194304 bytes\n",
-            Status::Source,
-        ),
+fn texts_are_refused_past_their_limits(rt: HostRuntime) -> Result<(), Fail> {
+    let long_spec = "spec: longer than 1048576 bytes\n";
+    let long_source = "source: longer than 4194304 bytes\n";
+    for (spec, spec_size, source_size, out, err, status) in [
+        (SIGNS, 1_048_576, 0, "1:1 END\n", "", Status::Done),
+        (SIGNS, 1_048_577, 0, "", long_spec, Status::Spec),
+        (LINES, 0, 4_194_304, "1:4194305 END\n", "", Status::Done),
+        (SIGNS, 0, 4_194_305, "", long_source, Status::Source),
+        // The specification comes first.
+        (SIGNS, 1_048_577, 4_194_305, "", long_spec, Status::Spec),
     ] {
-        let blanks = vec![in rt.alloc(); b' '; spec_size]?;
-        let spec = if spec_size == 0 {
-            SIGNS.as_bytes()
-        } else {
-            blanks.as_slice()
-        };
+        let spec = padded(rt.alloc(), spec, spec_size)?;
         let source = vec![in rt.alloc(); b' '; source_size]?;
-        let files = [spec, source.as_slice()];
-        assert!(rt;
-            ends_in(rt.alloc(), "tokens s x", &files, &[0, 0], "", err, status)?,
-            "{err}"
-        );
+        let files = [spec.as_slice(), source.as_slice()];
+        let holds = ends_in(rt.alloc(), "tokens s x", &files, out, err, status)?;
+        assert!(rt; holds, "{spec_size} and {source_size} bytes");
     }
     Ok(())
 }
