@@ -1,3 +1,4 @@
+mod AnswerOfTokens
 mod ClassSpans
 mod DeclarationExamples
 mod Ends
@@ -5,9 +6,17 @@ mod Examples
 mod FirstLine
 mod LinesSoFar
 mod NextPlace
+mod OneFault
+mod OneLexing
+mod OneOutcome
+mod OneShape
+mod OutcomeExamples
+mod PassedOn
 mod PiecesSoFar
 mod PrintedLine
+mod RuleParts
 mod RulesSoFar
+mod SameScanRules
 mod ScannedRules
 mod SectionsOfLines
 mod ThreeWords

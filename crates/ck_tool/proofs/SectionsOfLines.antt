@@ -1,67 +1,73 @@
--- Which lines stand between REX and END, and that these are all lines with tokens.
-use Rattle.std.proofs.Common.{◌≡◌, ℕ, zero, suc, ◌+◌, ◌≤◌, Bool, true, false, cond, List, [], ◌∷◌, ◌++◌, length, map, take, refl, sym, ap, ◌∙◌, Some, arith}
-use Rattle.std.specs.Prelude.{slice_get, filter, codes}
-use Rattle.std.specs.Str.Lines.{lines}
-use Rattle.std.proofs.lemmas.List.{take-map, length-map}
-use Rattle.ck_tool.specs.LineTokens.{word, LineTokens, has_tokens}
-use Rattle.ck_tool.specs.NumberedLines.{NumberedLine, numbered, line_of}
-use Rattle.ck_tool.specs.RuleShape.{Declaration, RuleLines}
-use Rattle.ck_tool.specs.Declares.{Declares}
-use Rattle.ck_tool.specs.Sections.{AreBetween, IsEndAt, text_of}
+-- How the lines of the program stand: the first END among them, and the first section fault.
+use Rattle.std.proofs.Common.{◌≡◌, ℕ, zero, suc, ◌+◌, ◌<◌, ◌≤◌, List, [], ◌∷◌, ◌++◌, length, map, take, drop, get_or, refl, sym, ap, ◌∙◌, Some, option_map, add-one, arith}
+use Rattle.std.specs.Prelude.{slice_get}
+use Rattle.std.proofs.Math.ListN.{drop_of_length-le}
+use Rattle.std.proofs.lemmas.Option.{slice_get-map, slice_get-get_or}
+use Rattle.ck_tool.specs.NumberedLines.{NumberedLine}
+use Rattle.ck_tool.specs.RulesOfLines.{IsFirstEnd}
+use Rattle.ck_tool.specs.Seen.{line_of}
 use Rattle.ck_tool.specs.declared.line.SpecLine.{SpecLine}
+use Rattle.ck_tool.specs.Sections.{IsRex, IsEnd, NoneIsEnd, AreSections, SectionFault, nothing, after_end}
 
--- the last element stands behind those before its place
-last_at : (texts : List (List ℕ)) (place : ℕ) (last : List ℕ) → slice_get texts place ≡ Some last → length texts ≤ place + 1
-    → texts ≡ take place texts ++ last ∷ []
-last_at [] place last at few = (cc)
-last_at (text ∷ []) zero last at few = (cc)
-last_at (text ∷ next ∷ texts) zero last at few = absurd (omega arith)
-last_at (text ∷ texts) (suc place) last at few = ap (λ more. text ∷ more) (last_at texts place last at (omega arith))
+-- the line that is read past the last one
+abbrev pub no_line : SpecLine
+no_line = record { number = 0; text = record { ref_ptr = (0, 0); now = [] } }
 
--- REX is the first line, and END the last one
-pub are_between : (all rest : List SpecLine) (first : SpecLine) (place : ℕ) → all ≡ first ∷ rest
-    → LineTokens first.text.now (word (codes "REX") ∷ []) → IsEndAt (map text_of rest) place → length rest ≤ place + 1
-    → AreBetween (map text_of all) (map text_of (take place rest))
-are_between all rest first place at is_rex (last, at_last, is_end) few = rw at (record {
-  first = first.text.now;
-  last = last;
-  are_lines =
-      let at_end = last_at (map text_of rest) place last at_last (simp length-map few) in
-      ap (λ more. first.text.now ∷ more) (at_end ∙ ap (λ texts. texts ++ last ∷ []) (take-map text_of place rest));
-  is_rex = is_rex;
-  is_end = is_end;
-})
+-- the numbered line that a line of the program at a place stands for
+pub line_in_place : (lines : List SpecLine) (i : ℕ) (d : SpecLine) → i < length lines
+    → slice_get (map line_of lines) i ≡ Some (line_of (get_or lines i d))
+line_in_place lines i d within = slice_get-map line_of lines i ∙ ap (option_map line_of) (slice_get-get_or lines i d within)
 
--- the bytes of numbered lines
-abbrev texts : List NumberedLine → List (List ℕ)
-texts all = map (λ line. line.text) all
+-- the lines before a place, the one there, and those behind it
+pub at_place : (lines : List NumberedLine) (i : ℕ) (line : NumberedLine) → slice_get lines i ≡ Some line
+    → lines ≡ take i lines ++ line ∷ drop (suc i) lines
+at_place [] i line at = (cc)
+at_place (first ∷ lines) zero line at = let same : first ≡ line = cc in rw same refl
+at_place (first ∷ lines) (suc i) line at = ap (λ more. first ∷ more) (at_place lines i line at)
 
--- a line is among the numbered ones where its bytes are among theirs
-text_if : (b : Bool) (line : List ℕ) (number : ℕ) (more : List NumberedLine)
-    → texts (cond b (record { number = number; text = line } ∷ more) more) ≡ cond b (line ∷ texts more) (texts more)
-text_if true line number more = refl
-text_if false line number more = refl
+-- none of the lines up to a place is END
+none_more : (lines : List NumberedLine) (i : ℕ) (line : NumberedLine) → slice_get lines i ≡ Some line → (IsEnd line → ⊥)
+    → NoneIsEnd (take i lines) → NoneIsEnd (take (suc i) lines)
+none_more [] i line at not_end none = tt
+none_more (first ∷ lines) zero line at not_end none = let same : first ≡ line = cc in (rw same not_end, tt)
+none_more (first ∷ lines) (suc i) line at not_end none = (none.0, none_more lines i line at not_end none.1)
 
--- the numbered lines are those with tokens
-numbered_texts : (number : ℕ) (all : List (List ℕ)) → texts (numbered number all) ≡ filter has_tokens all
-numbered_texts number [] = refl
-numbered_texts number (line ∷ all) = text_if (has_tokens line) line number (numbered (number + 1) all)
-    ∙ ap (λ more. cond (has_tokens line) (line ∷ more) more) (numbered_texts (number + 1) all)
+pub none_up_to : (lines : List NumberedLine) (i : ℕ) (line : NumberedLine) → slice_get lines i ≡ Some line → (IsEnd line → ⊥)
+    → NoneIsEnd (take i lines) → NoneIsEnd (take (i + 1) lines)
+none_up_to lines i line at not_end none = rw add-one (none_more lines i line at not_end none)
 
--- a line of the program has the bytes of its numbered line
-texts_of_lines : (all : List SpecLine) → map text_of all ≡ texts (map line_of all)
-texts_of_lines [] = refl
-texts_of_lines (line ∷ all) = ap (λ more. line.text.now ∷ more) (texts_of_lines all)
+-- REX is the first line, and the first END the last one
+pub are_sections : (all rest : List NumberedLine) (first : NumberedLine) (place : ℕ) → all ≡ first ∷ rest → IsRex first
+    → IsFirstEnd rest place → length rest ≤ place + 1 → AreSections all (take place rest)
+are_sections all rest first place at is_rex end few =
+    let within : length rest ≤ suc place = omega arith in
+    let last : drop (suc place) rest ≡ [] = drop_of_length-le rest within in
+    let stand = at_place rest place end.line end.is_line in
+    record {
+      first = first;
+      last = end.line;
+      are_lines = at ∙ ap (λ more. first ∷ more) (stand ∙ ap (λ more. take place rest ++ end.line ∷ more) last);
+      is_rex = is_rex;
+      none_is_end = end.before;
+      is_end = end.is_end;
+    }
 
--- the specification declares what the lines between declare
-pub declares : (spec : List ℕ) (all : List SpecLine) (between : List (List ℕ)) (declared : List Declaration)
-    → map line_of all ≡ numbered 1 (lines spec) → AreBetween (map text_of all) between → RuleLines between declared → Declares spec declared
-declares spec all between declared at sections rules = record {
-  first = sections.first;
-  between = between;
-  last = sections.last;
-  with_tokens = sym (texts_of_lines all ∙ ap texts at ∙ numbered_texts 1 (lines spec)) ∙ sections.are_lines;
-  is_rex = sections.is_rex;
-  are_rules = rules;
-  is_end = sections.is_end;
-}
+-- a line stands after the first END
+pub fault_after_end : (past : ℕ) (all rest : List NumberedLine) (first after : NumberedLine) (place : ℕ) → all ≡ first ∷ rest
+    → IsRex first → IsFirstEnd rest place → slice_get rest (place + 1) ≡ Some after → SectionFault past all after.number
+fault_after_end past all rest first after place at is_rex end there =
+    let stand = at_place rest place end.line end.is_line in
+    let behind : drop (suc place) rest ≡ after ∷ drop (suc (suc place)) rest = at_drop rest (suc place) after (rw add-one at there) in
+    after_end first end.line after (take place rest) (drop (suc (suc place)) rest)
+    (at ∙ ap (λ more. first ∷ more) (stand ∙ ap (λ more. take place rest ++ end.line ∷ more) behind)) is_rex end.before end.is_end
+  where
+    at_drop : (lines : List NumberedLine) (i : ℕ) (line : NumberedLine) → slice_get lines i ≡ Some line
+        → drop i lines ≡ line ∷ drop (suc i) lines
+    at_drop [] i line at = (cc)
+    at_drop (first ∷ lines) zero line at = let same : first ≡ line = cc in rw same refl
+    at_drop (first ∷ lines) (suc i) line at = at_drop lines i line at
+
+-- the section faults of lines of the program
+pub no_lines : (lines items : List SpecLine) (past : ℕ) → lines ≡ items → length lines ≡ 0 → SectionFault past (map line_of items) past
+no_lines [] items past at none = nothing (ap (map line_of) (sym at))
+no_lines (line ∷ lines) items past at none = absurd (omega arith)

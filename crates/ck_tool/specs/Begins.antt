@@ -1,25 +1,58 @@
 -- What a line or the inside of a class begins with, and the bytes that a span adds to a set.
-use Rattle.std.specs.Prelude.{◌≡◌, ℕ, ◌+◌, ◌<◌, ◌≤◌, ◌⊎◌, List, ◌∷◌, length, take, drop, Some, slice_get}
+use Rattle.std.specs.Prelude.{◌≡◌, ℕ, ◌+◌, ◌<◌, ◌≤◌, ◌⊎◌, List, ◌∷◌, length, take, drop, Some, true, false, slice_get}
 use Rattle.rex_model.specs.Language.{IsIn}
-use Rattle.ck_tool.specs.LineTokens.{Span, Spans, Lexeme, LineTokens}
+use Rattle.rex_model.specs.Meaning.{set_of}
+use Rattle.ck_tool.specs.LineTokens.{Span, Spans, IsClass, set_of_spans, Lexeme, BeginsWith, LineTokens, is_blank, is_class_byte}
 
--- the inside of a class begins with the span from low to high, and rest follows it
+-- a span may go from low to high
+abbrev pub IsSpan : ℕ → ℕ → Type 0
+IsSpan low high = (is_class_byte low ≡ true) × (is_class_byte high ≡ true) × (low ≤ high)
+
+-- the bytes aren't `-`, a byte and more
+abbrev pub HasNoRange : List ℕ → Type 0
+HasNoRange bytes = (high : ℕ) (after : List ℕ) → bytes ≡ 45 ∷ high ∷ after → ⊥
+
+-- the inside of a class lists spans exactly where it begins with the one from low to high and rest lists the others
 pub record BeginsSpans (inside : List ℕ) (low high : ℕ) (rest : List ℕ) : Type 0 where
   pub shorter : length rest < length inside
   pub order : low ≤ high
-  pub spans : (spans : List Span) → Spans rest spans → Spans inside (record { low = low; high = high } ∷ spans)
+  pub is_byte : high < 256
+  pub lists : (spans : List Span) → Spans rest spans → Spans inside (record { low = low; high = high } ∷ spans)
+  pub others : (spans : List Span) → Spans inside spans
+      → (more : List Span) × (spans ≡ record { low = low; high = high } ∷ more) × Spans rest more
+
+-- the inside of a class lists no spans
+abbrev pub HasNoSpans : List ℕ → Type 0
+HasNoSpans inside = (spans : List Span) → Spans inside spans → ⊥
+
+-- the words have the bytes that the inside of a class lists
+pub record IsSetOf (inside words : List ℕ) : Type 0 where
+  pub spans : List Span
+  pub is_class : IsClass inside spans
+  pub same : set_of words ≡ set_of_spans spans
+
+-- it is no inside of a class
+abbrev pub IsNoClass : List ℕ → Type 0
+IsNoClass inside = (spans : List Span) → IsClass inside spans → ⊥
 
 -- the new set of bytes is the old one with the bytes from low to high
 pub record AddsSpan (old new : List ℕ) (low high : ℕ) : Type 0 where
   pub size : length new ≡ length old
-  pub only : (byte : ℕ) → IsIn new byte → IsIn old byte ⊎ ((low ≤ byte) × (byte ≤ high))
-  pub kept : (byte : ℕ) → IsIn old byte → IsIn new byte
-  pub more : (byte : ℕ) → low ≤ byte → byte ≤ high → IsIn new byte
+  pub only : (byte : ℕ) → IsIn (set_of new) byte → IsIn (set_of old) byte ⊎ ((low ≤ byte) × (byte ≤ high))
+  pub kept : (byte : ℕ) → IsIn (set_of old) byte → IsIn (set_of new) byte
+  pub more : (byte : ℕ) → low ≤ byte → byte ≤ high → IsIn (set_of new) byte
 
--- the line begins with the token, and rest follows it
-pub record BeginsLine (line : List ℕ) (token : Lexeme) (rest : List ℕ) : Type 0 where
-  pub shorter : length rest < length line
-  pub tokens : (tokens : List Lexeme) → LineTokens rest tokens → LineTokens line (token ∷ tokens)
+-- the line begins with no token
+abbrev pub BeginsWithNone : List ℕ → Type 0
+BeginsWithNone line = (token : Lexeme) (rest : List ℕ) → BeginsWith line token rest → ⊥
+
+-- the line has no tokens: something in it is none
+abbrev pub HasNoTokens : List ℕ → Type 0
+HasNoTokens line = (tokens : List Lexeme) → LineTokens line tokens → ⊥
+
+-- the line doesn't begin with a blank
+abbrev pub BeginsUnblank : List ℕ → Type 0
+BeginsUnblank line = (byte : ℕ) (rest : List ℕ) → line ≡ byte ∷ rest → is_blank byte ≡ false
 
 -- the bytes are `len` before, the end, and the bytes after it
 pub record CutsAt (bytes : List ℕ) (len end : ℕ) (before after : List ℕ) : Type 0 where

@@ -1,22 +1,44 @@
--- What a whole specification declares, and the scan rules that say the same.
-use Rattle.std.specs.Prelude.{◌≡◌, ℕ, ◌↔◌, List, [], ◌∷◌, ◌++◌, Option, Some, None, Contains, filter, slice_get, codes}
-use Rattle.std.specs.Str.Lines.{lines}
+-- What a whole specification declares or which is its first fault, and the scan rules that say the same.
+use Rattle.std.specs.Prelude.{◌≡◌, ℕ, ◌↔◌, List, [], ◌∷◌, ◌++◌, Option, Some, None, Contains, slice_get, codes}
 use Rattle.ck_base.specs.BitSet.{Has}
+use Rattle.ck_base.specs.declared.fault.Kind.{Kind}
+use Rattle.ck_base.specs.declared.fault.Kind.TheVariants.{Section, Syntax}
 use Rattle.rex_model.specs.Meaning.{meaning}
 use Rattle.rex_model.specs.declared.rules.ScanRule.{ScanRule}
 use Rattle.rex_model.specs.declared.rules.ScanRules.{ScanRules}
-use Rattle.ck_tool.specs.LineTokens.{word, LineTokens, has_tokens}
-use Rattle.ck_tool.specs.RuleShape.{Declaration, RuleLines}
+use Rattle.ck_tool.specs.NumberedLines.{NumberedLine, lines_of, past_lines}
+use Rattle.ck_tool.specs.RuleShape.{Declaration, DeclaresOne, HasNoShape}
+use Rattle.ck_tool.specs.Sections.{AreSections, SectionFault}
+
+-- each line declares one rule
+pub data RuleLines : List NumberedLine → List Declaration → Type 0 where
+  no_lines : RuleLines [] []
+  one_more : (line : NumberedLine) (lines : List NumberedLine) (rule : Declaration) (rules : List Declaration)
+      → DeclaresOne line.text rule → RuleLines lines rules → RuleLines (line ∷ lines) (rule ∷ rules)
 
 -- the lines with tokens are REX, a line for each rule, and END
 pub record Declares (spec : List ℕ) (declared : List Declaration) : Type 0 where
-  pub first : List ℕ
-  pub between : List (List ℕ)
-  pub last : List ℕ
-  pub with_tokens : filter has_tokens (lines spec) ≡ first ∷ (between ++ last ∷ [])
-  pub is_rex : LineTokens first (word (codes "REX") ∷ [])
+  pub between : List NumberedLine
+  pub sections : AreSections (lines_of spec) between
   pub are_rules : RuleLines between declared
-  pub is_end : LineTokens last (word (codes "END") ∷ [])
+
+-- the number of the first of the lines that has neither shape; those before it declare rules
+pub record FirstWithoutShape (lines : List NumberedLine) (number : ℕ) : Type 0 where
+  pub before : List NumberedLine
+  pub line : NumberedLine
+  pub after : List NumberedLine
+  pub rules : List Declaration
+  pub are_lines : lines ≡ before ++ line ∷ after
+  pub declare : RuleLines before rules
+  pub has_none : HasNoShape line.text
+  pub is_number : number ≡ line.number
+
+-- the first fault of a specification, by its line and its kind: a section fault, else the first line
+-- between REX and END that has neither shape
+pub data Fault (spec : List ℕ) : ℕ → Kind → Type 0 where
+  of_sections : (line : ℕ) → SectionFault (past_lines spec) (lines_of spec) line → Fault spec line Section
+  of_shape : (between : List NumberedLine) (line : ℕ) → AreSections (lines_of spec) between
+      → FirstWithoutShape between line → Fault spec line Syntax
 
 -- the number is that of the token's name; a skipped text has neither
 abbrev pub IsTokenNumber : List (List ℕ) → Option (List ℕ) → Option ℕ → Type 0

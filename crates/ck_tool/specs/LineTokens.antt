@@ -1,7 +1,6 @@
 -- The tokens of one line of a specification.
-use Rattle.std.specs.Prelude.{◌≡◌, ℕ, ◌+◌, ◌<◌, ◌≤◌, ◌==◌, ◌⊎◌, ◌↔◌, Bool, true, ◌&&◌, ◌||◌, not, nat_le, List, [], ◌∷◌, length, take, drop, Some, slice_get}
-use Rattle.std.specs.List.{prefix_len, list_all}
-use Rattle.rex_model.specs.Language.{IsIn}
+use Rattle.std.specs.Prelude.{◌≡◌, ℕ, ◌+◌, ◌<◌, ◌≤◌, ◌==◌, Bool, true, ◌&&◌, ◌||◌, not, nat_le, List, [], ◌∷◌, length, take, drop, Some, slice_get}
+use Rattle.std.specs.List.{prefix_len, list_all, list_any}
 
 -- a byte from low to high
 abbrev pub is_between : ℕ → ℕ → ℕ → Bool
@@ -44,24 +43,21 @@ pub data Spans : List ℕ → List Span → Type 0 where
   range : (low high : ℕ) (rest : List ℕ) (spans : List Span) → is_class_byte low ≡ true → is_class_byte high ≡ true
       → low ≤ high → Spans rest spans → Spans (low ∷ 45 ∷ high ∷ rest) (record { low = low; high = high } ∷ spans)
 
--- the byte is in one of the spans
-abbrev pub InSpans : List Span → ℕ → Type 0
-InSpans [] byte = ⊥
-InSpans (span ∷ spans) byte = ((span.low ≤ byte) × (byte ≤ span.high)) ⊎ InSpans spans byte
+-- the set of the bytes of all spans
+abbrev pub set_of_spans : List Span → ℕ → Bool
+set_of_spans spans byte = list_any (λ span. is_between span.low span.high byte) spans
 
--- what stands between `[` and `]` lists the bytes of the set; it isn't empty and doesn't begin with `^`
-pub record IsClass (inside : List ℕ) (words : List ℕ) : Type 0 where
-  pub spans : List Span
+-- what stands between `[` and `]` lists these spans; it isn't empty and doesn't begin with `^`
+pub record IsClass (inside : List ℕ) (spans : List Span) : Type 0 where
   pub lists : Spans inside spans
   pub some : 0 < length inside
   pub not_negated : slice_get inside 0 ≡ Some 94 → ⊥
-  pub has : (byte : ℕ) → IsIn words byte ↔ InSpans spans byte
 
 -- a token of a line: a word, a string's bytes, a class's set of bytes, or one of the signs `*`, `+`, `:`
 pub data Lexeme : Type 0 where
   word : List ℕ → Lexeme
   string : List ℕ → Lexeme
-  byte_set : List ℕ → Lexeme
+  byte_set : (ℕ → Bool) → Lexeme
   sign : ℕ → Lexeme
 
 -- one of the signs
@@ -78,22 +74,24 @@ text_len bytes = prefix_len is_text_byte bytes
 abbrev pub class_len : List ℕ → ℕ
 class_len bytes = prefix_len (λ byte. not (byte == 93)) bytes
 
--- the line has these tokens: blanks separate them, and a word is as long as it can be
+-- the line begins with the token, and the rest follows it; a word is as long as it can be
+pub data BeginsWith : List ℕ → Lexeme → List ℕ → Type 0 where
+  a_word : (byte : ℕ) (rest : List ℕ) → is_letter byte ≡ true
+      → BeginsWith (byte ∷ rest) (word (byte ∷ take (word_len rest) rest)) (drop (word_len rest) rest)
+  a_text : (quote : ℕ) (rest : List ℕ) → quote ≡ 34 → slice_get rest (text_len rest) ≡ Some 34
+      → BeginsWith (quote ∷ rest) (string (take (text_len rest) rest)) (drop (text_len rest + 1) rest)
+  a_class : (bracket : ℕ) (rest : List ℕ) (spans : List Span) → bracket ≡ 91 → slice_get rest (class_len rest) ≡ Some 93
+      → IsClass (take (class_len rest) rest) spans
+      → BeginsWith (bracket ∷ rest) (byte_set (set_of_spans spans)) (drop (class_len rest + 1) rest)
+  a_sign : (byte : ℕ) (rest : List ℕ) → is_sign byte ≡ true → BeginsWith (byte ∷ rest) (sign byte) rest
+
+-- the line has these tokens, and blanks between them
 pub data LineTokens : List ℕ → List Lexeme → Type 0 where
   no_tokens : LineTokens [] []
   blank : (byte : ℕ) (rest : List ℕ) (tokens : List Lexeme) → is_blank byte ≡ true → LineTokens rest tokens
       → LineTokens (byte ∷ rest) tokens
-  a_word : (byte : ℕ) (rest : List ℕ) (tokens : List Lexeme) → is_letter byte ≡ true
-      → LineTokens (drop (word_len rest) rest) tokens
-      → LineTokens (byte ∷ rest) (word (byte ∷ take (word_len rest) rest) ∷ tokens)
-  a_text : (rest : List ℕ) (tokens : List Lexeme) → slice_get rest (text_len rest) ≡ Some 34
-      → LineTokens (drop (text_len rest + 1) rest) tokens
-      → LineTokens (34 ∷ rest) (string (take (text_len rest) rest) ∷ tokens)
-  a_class : (rest words : List ℕ) (tokens : List Lexeme) → slice_get rest (class_len rest) ≡ Some 93
-      → IsClass (take (class_len rest) rest) words → LineTokens (drop (class_len rest + 1) rest) tokens
-      → LineTokens (91 ∷ rest) (byte_set words ∷ tokens)
-  a_sign : (byte : ℕ) (rest : List ℕ) (tokens : List Lexeme) → is_sign byte ≡ true → LineTokens rest tokens
-      → LineTokens (byte ∷ rest) (sign byte ∷ tokens)
+  a_token : (line rest : List ℕ) (token : Lexeme) (tokens : List Lexeme) → BeginsWith line token rest
+      → LineTokens rest tokens → LineTokens line (token ∷ tokens)
 
 -- the line isn't made of blanks alone
 abbrev pub has_tokens : List ℕ → Bool

@@ -8,7 +8,7 @@ use Rattle.ck_tool.specs.LineTokens.{Lexeme, word, string, byte_set, sign, LineT
 -- a piece without a sign: a string that isn't empty, or a class
 pub data Atom : Lexeme → Re → Type 0 where
   a_string : (text : List ℕ) → 0 < length text → Atom (string text) (bytes text)
-  a_class : (words : List ℕ) → Atom (byte_set words) (class words)
+  a_class : (set : ℕ → Bool) → Atom (byte_set set) (class set)
 
 -- pieces one after the other, each followed by at most one `*` or `+`
 pub data Pieces : List Lexeme → List Re → Type 0 where
@@ -24,7 +24,7 @@ pub data Pieces : List Lexeme → List Re → Type 0 where
 abbrev pub is_unstarred : Re → Bool
 is_unstarred none = true
 is_unstarred (bytes text) = true
-is_unstarred (class words) = true
+is_unstarred (class set) = true
 is_unstarred (sequence r s) = true
 is_unstarred (alternative r s) = true
 is_unstarred (star r) = false
@@ -36,21 +36,28 @@ pub record Declaration : Type 0 where
   pub body : Re
   pub token : Option (List ℕ)
 
+-- what stands behind the pieces: `: TOKEN name`, or `: SKIP`
+abbrev pub ending : Option (List ℕ) → List Lexeme
+ending None = sign 58 ∷ word (codes "SKIP") ∷ []
+ending (Some name) = sign 58 ∷ word (codes "TOKEN") ∷ word name ∷ []
+
 -- the tokens of a line declare a rule: one or more pieces, of which one at least has no `*`, and a
 -- name that isn't END
-pub data RuleShape : List Lexeme → Declaration → Type 0 where
-  a_token : (tokens : List Lexeme) (rs : List Re) (name : List ℕ) → Pieces tokens rs
-      → list_any is_unstarred rs ≡ true → (name ≡ codes "END" → ⊥)
-      → RuleShape
-      (word (codes "RULE") ∷ (tokens ++ (sign 58 ∷ word (codes "TOKEN") ∷ word name ∷ [])))
-      (record { body = sequence_of rs; token = Some name })
-  a_skip : (tokens : List Lexeme) (rs : List Re) → Pieces tokens rs → list_any is_unstarred rs ≡ true
-      → RuleShape (word (codes "RULE") ∷ (tokens ++ (sign 58 ∷ word (codes "SKIP") ∷ [])))
-      (record { body = sequence_of rs; token = None })
+pub record RuleShape (tokens : List Lexeme) (rule : Declaration) : Type 0 where
+  pub pieces : List Lexeme
+  pub parts : List Re
+  pub are_tokens : tokens ≡ word (codes "RULE") ∷ (pieces ++ ending rule.token)
+  pub are_pieces : Pieces pieces parts
+  pub some : list_any is_unstarred parts ≡ true
+  pub is_body : rule.body ≡ sequence_of parts
+  pub not_end : rule.token ≡ Some (codes "END") → ⊥
 
--- each line declares one rule
-pub data RuleLines : List (List ℕ) → List Declaration → Type 0 where
-  no_lines : RuleLines [] []
-  more : (line : List ℕ) (lines : List (List ℕ)) (tokens : List Lexeme) (rule : Declaration) (rules : List Declaration)
-      → LineTokens line tokens → RuleShape tokens rule → RuleLines lines rules
-      → RuleLines (line ∷ lines) (rule ∷ rules)
+-- the line declares the rule
+pub record DeclaresOne (line : List ℕ) (rule : Declaration) : Type 0 where
+  pub tokens : List Lexeme
+  pub are_tokens : LineTokens line tokens
+  pub shape : RuleShape tokens rule
+
+-- the line has neither shape
+abbrev pub HasNoShape : List ℕ → Type 0
+HasNoShape line = (rule : Declaration) → DeclaresOne line rule → ⊥

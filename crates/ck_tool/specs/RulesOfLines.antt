@@ -1,11 +1,15 @@
--- The scan rules that lines declare.
-use Rattle.std.specs.Prelude.{◌≡◌, ℕ, List, [], ◌∷◌, Option, Some, None}
+-- The scan rules that lines declare, and the fault where one declares none.
+use Rattle.std.specs.Prelude.{◌≡◌, ℕ, List, [], ◌∷◌, take, Option, Some, None, slice_get}
 use Rattle.std.specs.Borrow.{Bor}
 use Rattle.ck_base.specs.Numbered.{Interns}
+use Rattle.ck_base.specs.declared.fault.Kind.TheVariants.{Section, Syntax}
+use Rattle.ck_base.specs.declared.fault.SpecFault.{SpecFault}
+use Rattle.ck_base.specs.declared.fault.SpecFault.TheVariants.{Bad, NoMemory}
 use Rattle.rex_model.specs.declared.rules.ScanRule.{ScanRule}
-use Rattle.ck_tool.specs.LineTokens.{Lexeme, LineTokens}
-use Rattle.ck_tool.specs.RuleShape.{Declaration, RuleShape, RuleLines}
-use Rattle.ck_tool.specs.Declares.{IsRule, AreRules, Met}
+use Rattle.ck_tool.specs.NumberedLines.{NumberedLine}
+use Rattle.ck_tool.specs.RuleShape.{Declaration, DeclaresOne, HasNoShape}
+use Rattle.ck_tool.specs.Declares.{RuleLines, FirstWithoutShape, Fault, IsRule, AreRules, Met}
+use Rattle.ck_tool.specs.Sections.{IsEnd, NoneIsEnd, SectionFault}
 
 -- the number of a token's name, which is numbered where it is new
 abbrev pub IsNumber : List (List ℕ) → List (List ℕ) → Option (Bor (List ℕ)) → Option ℕ → Type 0
@@ -16,16 +20,41 @@ IsNumber old new (Some name) (Some n) = Interns old new name.now n
 
 -- the line declares the rule, and the token's name is met
 pub record DeclaresRule (line : List ℕ) (old new : List (List ℕ)) (rule : ScanRule) : Type 0 where
-  pub tokens : List Lexeme
   pub declared : Declaration
-  pub line_tokens : LineTokens line tokens
-  pub shape : RuleShape tokens declared
+  pub by_line : DeclaresOne line declared
   pub met : Met old (declared ∷ []) new
   pub is_rule : IsRule new declared rule
 
 -- the lines declare the rules, and the names are those that are met
-pub record AreRulesOf (lines : List (List ℕ)) (names : List (List ℕ)) (rules : List ScanRule) : Type 0 where
+pub record AreRulesOf (lines : List NumberedLine) (names : List (List ℕ)) (rules : List ScanRule) : Type 0 where
   pub declared : List Declaration
   pub by_lines : RuleLines lines declared
   pub met : Met [] declared names
   pub are_rules : AreRules names declared rules
+
+-- the first line that is END stands at this place
+pub record IsFirstEnd (lines : List NumberedLine) (place : ℕ) : Type 0 where
+  pub line : NumberedLine
+  pub is_line : slice_get lines place ≡ Some line
+  pub is_end : IsEnd line
+  pub before : NoneIsEnd (take place lines)
+
+-- the fault is that the line has neither shape, or want of memory
+abbrev pub IsFaultOfLine : NumberedLine → SpecFault → Type 0
+IsFaultOfLine line (Bad number kind) = (number ≡ line.number) × (kind ≡ Syntax) × HasNoShape line.text
+IsFaultOfLine line NoMemory = Unit {0}
+
+-- the fault is the first of these lines that has neither shape, or want of memory
+abbrev pub IsFaultOfLines : List NumberedLine → SpecFault → Type 0
+IsFaultOfLines lines (Bad number kind) = (kind ≡ Syntax) × FirstWithoutShape lines number
+IsFaultOfLines lines NoMemory = Unit {0}
+
+-- the fault is the first section fault
+abbrev pub IsFaultOfSections : ℕ → List NumberedLine → SpecFault → Type 0
+IsFaultOfSections past lines (Bad number kind) = (kind ≡ Section) × SectionFault past lines number
+IsFaultOfSections past lines NoMemory = ⊥
+
+-- the fault is the first one of the specification, or want of memory
+abbrev pub IsFaultOf : List ℕ → SpecFault → Type 0
+IsFaultOf spec (Bad number kind) = Fault spec number kind
+IsFaultOf spec NoMemory = Unit {0}

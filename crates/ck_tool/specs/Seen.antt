@@ -1,11 +1,18 @@
--- What a token of the program stands for.
+-- What a token and a line of the program stand for.
 use Rattle.ck_tool.specs.LineTokens.{Lexeme, word, string, byte_set, sign}
+use Rattle.ck_tool.specs.NumberedLines.{NumberedLine}
+use Rattle.ck_tool.specs.declared.line.SpecLine.{SpecLine}
 use Rattle.ck_tool.specs.declared.token.Token.{Token}
 use Rattle.ck_tool.specs.declared.token.Token.TheVariants.{Word, Text, Class, Sign}
+use Rattle.rex_model.specs.Meaning.{set_of}
 
 -- the token of the line
 abbrev pub seen : Token → Lexeme
 seen (Word bytes) = word bytes.now
 seen (Text bytes) = string bytes.now
-seen (Class set) = byte_set set
+seen (Class words) = byte_set (set_of words)
 seen (Sign byte) = sign byte
+
+-- the numbered line
+abbrev pub line_of : SpecLine → NumberedLine
+line_of line = record { number = line.number; text = line.text.now }

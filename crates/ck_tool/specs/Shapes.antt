@@ -1,11 +1,11 @@
 -- What the parts of a rule's line declare.
-use Rattle.std.specs.Prelude.{◌≡◌, ℕ, ◌≤◌, ◌++◌, Bool, true, false, not, List, [], ◌∷◌, length, drop, map, Option, Some, None, codes}
+use Rattle.std.specs.Prelude.{◌≡◌, ℕ, ◌≤◌, ◌++◌, Bool, true, false, not, List, ◌∷◌, length, drop, map, Option, Some, None, codes}
 use Rattle.std.specs.Borrow.{Bor}
 use Rattle.std.specs.List.{list_any}
 use Rattle.rex_model.specs.Language.{Re, star, plus}
 use Rattle.rex_model.specs.Meaning.{meaning, sequence_of}
 use Rattle.ck_tool.specs.LineTokens.{Lexeme, word, sign}
-use Rattle.ck_tool.specs.RuleShape.{Pieces, Declaration, is_unstarred}
+use Rattle.ck_tool.specs.RuleShape.{Atom, Pieces, Declaration, RuleShape, is_unstarred, ending}
 use Rattle.ck_tool.specs.Seen.{seen}
 use Rattle.ck_tool.specs.declared.shape.DeclaredRule.{DeclaredRule}
 use Rattle.ck_tool.specs.declared.token.Token.{Token}
@@ -21,6 +21,10 @@ name_of (Some name) = Some name.now
 abbrev pub declaration_of : DeclaredRule → Declaration
 declaration_of rule = record { body = meaning rule.body.now; token = name_of rule.token }
 
+-- the tokens declare no rule
+abbrev pub DeclareNothing : List Lexeme → Type 0
+DeclareNothing tokens = (rule : Declaration) → RuleShape tokens rule → ⊥
+
 -- the piece has a `*`
 abbrev pub is_star : Repeat → Bool
 is_star Once = false
@@ -33,9 +37,13 @@ token_count Once = 1
 token_count Star = 2
 token_count Plus = 2
 
--- the tokens begin with the sign of a piece
+-- the tokens begin with this one
+abbrev pub BeginWith : List Lexeme → Lexeme → Type 0
+BeginWith tokens token = (rest : List Lexeme) × (tokens ≡ token ∷ rest)
+
+-- the tokens begin with the sign of a piece, or with neither sign
 abbrev pub BeginsWithSign : List Token → Repeat → Type 0
-BeginsWithSign tokens Once = Unit {0}
+BeginsWithSign tokens Once = (BeginWith (map seen tokens) (sign 42) → ⊥) × (BeginWith (map seen tokens) (sign 43) → ⊥)
 BeginsWithSign tokens Star = map seen tokens ≡ sign 42 ∷ map seen (drop 1 tokens)
 BeginsWithSign tokens Plus = map seen tokens ≡ sign 43 ∷ map seen (drop 1 tokens)
 
@@ -45,11 +53,21 @@ repeated Once r = r
 repeated Star r = star r
 repeated Plus r = plus r
 
--- the tokens begin with a piece that means r
+-- the token is no atom
+abbrev pub IsNoAtom : Lexeme → Type 0
+IsNoAtom token = (r : Re) → Atom token r → ⊥
+
+-- the tokens are pieces exactly where they begin with one that means r and the others are pieces
 pub record BeginsPieces (tokens : List Token) (r : Re) (repeat : Repeat) : Type 0 where
   pub fits : token_count repeat ≤ length tokens
   pub starred : is_unstarred r ≡ not (is_star repeat)
   pub pieces : (rs : List Re) → Pieces (map seen (drop (token_count repeat) tokens)) rs → Pieces (map seen tokens) (r ∷ rs)
+  pub others : (rs : List Re) → Pieces (map seen tokens) rs
+      → (more : List Re) × (rs ≡ r ∷ more) × Pieces (map seen (drop (token_count repeat) tokens)) more
+
+-- the tokens are no pieces
+abbrev pub AreNoPieces : List Lexeme → Type 0
+AreNoPieces tokens = (rs : List Re) → Pieces tokens rs → ⊥
 
 -- the tokens are pieces, of which one at least has no `*`, and the body is one after the other
 pub record ArePieces (tokens : List Lexeme) (body : Re) : Type 0 where
@@ -58,12 +76,19 @@ pub record ArePieces (tokens : List Lexeme) (body : Re) : Type 0 where
   pub some : list_any is_unstarred parts ≡ true
   pub is_body : body ≡ sequence_of parts
 
--- the tokens after the pieces of a rule
-abbrev pub ending : Option (Bor (List ℕ)) → List Lexeme
-ending None = sign 58 ∷ word (codes "SKIP") ∷ []
-ending (Some name) = sign 58 ∷ word (codes "TOKEN") ∷ word name.now ∷ []
+-- the tokens aren't such pieces
+abbrev pub HaveNoBody : List Lexeme → Type 0
+HaveNoBody tokens = (body : Re) → ArePieces tokens body → ⊥
 
--- the tokens are those of a rule with these pieces and this name, which isn't END
-pub record IsAroundColon (tokens pieces : List Lexeme) (name : Option (Bor (List ℕ))) : Type 0 where
-  pub are_tokens : tokens ≡ word (codes "RULE") ∷ (pieces ++ ending name)
-  pub not_end : name_of name ≡ Some (codes "END") → ⊥
+-- the tokens are those of a rule with these pieces and this ending
+abbrev pub IsRuleOf : List Lexeme → List Lexeme → Option (List ℕ) → Type 0
+IsRuleOf tokens pieces name = tokens ≡ word (codes "RULE") ∷ (pieces ++ ending name)
+
+-- and the name isn't END
+pub record IsAroundColon (tokens pieces : List Lexeme) (name : Option (List ℕ)) : Type 0 where
+  pub are_tokens : IsRuleOf tokens pieces name
+  pub not_end : name ≡ Some (codes "END") → ⊥
+
+-- the tokens are those of no rule
+abbrev pub IsNoRule : List Lexeme → Type 0
+IsNoRule tokens = (pieces : List Lexeme) (name : Option (List ℕ)) → IsAroundColon tokens pieces name → ⊥

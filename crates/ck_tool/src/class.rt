@@ -1,6 +1,5 @@
-ghost use Rattle.std.specs.Prelude.{◌≡◌, ◌≤◌, IfSome};
-ghost use Rattle.ck_tool.specs.LineTokens.{IsClass};
-ghost use Rattle.ck_tool.specs.Begins.{BeginsSpans, AddsSpan};
+ghost use Rattle.std.specs.Prelude.{◌≡◌, ◌↔◌, ◌∷◌, ◌<◌, ◌≤◌, length, IsTrue, MatchOption};
+ghost use Rattle.ck_tool.specs.Begins.{AddsSpan, BeginsSpans, HasNoRange, HasNoSpans, IsNoClass, IsSetOf, IsSpan};
 
 use crate::bytes::is_class_byte;
 
@@ -9,7 +8,7 @@ use crate::bytes::is_class_byte;
 /// word b / 64 is set. There is none where the inside is empty, begins with `^`, or has anything
 /// else.
 pub(crate) fn class_set(inside: &[u8]) -> Option<[u64; 4]>
-    ensures { IfSome result (λ words. IsClass inside.now words) }
+    ensures { MatchOption result (IsNoClass inside.now) (IsSetOf inside.now) }
 {
     if *inside.first()? == b'^' {
         return None;
@@ -25,16 +24,40 @@ pub(crate) fn class_set(inside: &[u8]) -> Option<[u64; 4]>
 }
 
 /// The span with which the inside of a class begins, as its first and its last byte, and what
-/// follows it.
+/// follows it. A single character is a span of one byte.
 fn first_span(inside: &[u8]) -> Option<(u8, u8, &[u8])>
-    ensures { IfSome result (λ found. BeginsSpans inside.now found.0 found.1 found.2.now) }
+    requires { 0 < length inside.now }
+    ensures { MatchOption result (HasNoSpans inside.now)
+        (λ found. BeginsSpans inside.now found.0 found.1 found.2.now) }
 {
-    match inside {
-        [low, b'-', high, rest @ ..]
-            if is_class_byte(*low) && is_class_byte(*high) && low <= high => {
-            Some((*low, *high, rest))
-        }
-        [byte, rest @ ..] if is_class_byte(*byte) => Some((*byte, *byte, rest)),
+    let (first, after) = inside.split_first()?;
+    if let Some((last, rest)) = range_end(after) {
+        return if is_span(*first, last) {
+            Some((*first, last, rest))
+        } else {
+            None
+        };
+    }
+    if is_span(*first, *first) {
+        Some((*first, *first, after))
+    } else {
+        None
+    }
+}
+
+/// Whether a span may go from one byte to the other.
+fn is_span(low: u8, high: u8) -> bool
+    ensures { IsTrue result ↔ IsSpan low high }
+{
+    is_class_byte(low) && is_class_byte(high) && low <= high
+}
+
+/// The byte behind the `-` with which the bytes begin, and what follows it.
+fn range_end(bytes: &[u8]) -> Option<(u8, &[u8])>
+    ensures { MatchOption result (HasNoRange bytes.now) (λ found. bytes.now ≡ 45 ∷ found.0 ∷ found.1.now) }
+{
+    match bytes {
+        [b'-', high, after @ ..] => Some((*high, after)),
         _ => None,
     }
 }

@@ -4,7 +4,7 @@
 //! |---|---|
 //! | the call, in the order of what is done | `src/top.rt`; `specs/Outcome.antt` |
 //! | which words are right | `src/words.rt`; `specs/Words.antt` |
-//! | the scan rules of a specification | `src/reader.rt`; `specs/Declares.antt`, `specs/RulesOfLines.antt` |
+//! | the scan rules of a specification, or its first fault | `src/reader.rt`; `specs/Declares.antt`, `specs/RulesOfLines.antt` |
 //! | its lines with tokens; those between REX and END | `src/line.rt`, `src/section.rt`; `specs/NumberedLines.antt`, `specs/Sections.antt` |
 //! | the rule that a line declares | `src/shape.rt`; `specs/RuleShape.antt`, `specs/Shapes.antt` |
 //! | the tokens of a line | `src/token.rt`, `src/bytes.rt`; `specs/LineTokens.antt`, `specs/Begins.antt`, `specs/Seen.antt` |
@@ -13,10 +13,12 @@
 //! | line and column of a place | `src/place.rt`; `specs/Places.antt` |
 //! | why there is no output | `src/stop.rt`; `specs/Stops.antt` |
 //! | a line put to a sink | `src/telling.rt`; `specs/Tells.antt` |
+//! | a run has one answer to give | `src/laws.rt`; `proofs/OneOutcome.antt` |
 #![tactic(auto)]
 
 mod bytes;
 mod class;
+mod laws;
 mod line;
 mod place;
 mod quote;
@@ -32,4 +34,5 @@ mod token_text;
 mod top;
 mod words;
 
+pub use laws::at_most_one_answer;
 pub use top::cocktail;

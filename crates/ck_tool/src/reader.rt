@@ -1,8 +1,8 @@
-ghost use Rattle.std.specs.Prelude.{◌≡◌, ◌+◌, ◌^◌, ◌<◌, ◌≤◌, ◌↔◌, ℕ, [], length, map, IfOk};
+ghost use Rattle.std.specs.Prelude.{◌≡◌, ◌+◌, ◌^◌, ◌<◌, ◌≤◌, ◌↔◌, ℕ, [], length, map, IfOk, IfErr};
 ghost use Rattle.ck_base.specs.BitSet.{Has};
 ghost use Rattle.ck_tool.specs.Declares.{DeclaresRules};
-ghost use Rattle.ck_tool.specs.RulesOfLines.{DeclaresRule, AreRulesOf, IsNumber};
-ghost use Rattle.ck_tool.specs.Sections.{text_of};
+ghost use Rattle.ck_tool.specs.RulesOfLines.{DeclaresRule, AreRulesOf, IsFaultOf, IsFaultOfLine, IsFaultOfLines, IsNumber};
+ghost use Rattle.ck_tool.specs.Seen.{line_of};
 
 use crate::line::{SpecLine, spec_lines};
 use crate::section::rule_lines;
@@ -28,6 +28,7 @@ pub(crate) fn read_rules<'a>(
     requires { length spec.now ≤ 1048576 }
     ensures declared { IfOk result (λ rules. DeclaresRules spec.now rules) }
     ensures few { IfOk result (λ rules. length rules.rules.items < 2 ^ 32) }
+    ensures fault { IfErr result (IsFaultOf spec.now) }
 {
     let lines = spec_lines(alloc, spec)?;
     let between = rule_lines(&lines)?;
@@ -48,8 +49,9 @@ fn rules_of<'a>(
     lines: &[SpecLine<'_>],
 ) -> Result<(Names, Vec<ScanRule<'a>>), SpecFault>
     requires { length lines.now < 2 ^ 31 }
-    ensures rules { IfOk result (λ found. AreRulesOf (map text_of lines.now) found.0 found.1.items) }
+    ensures rules { IfOk result (λ found. AreRulesOf (map line_of lines.now) found.0 found.1.items) }
     ensures few { IfOk result (λ found. length found.1.items ≡ length lines.now) }
+    ensures fault { IfErr result (IsFaultOfLines (map line_of lines.now)) }
 {
     let mut tokens = Names::new(alloc);
     let mut rules = Vec::new(alloc);
@@ -68,7 +70,8 @@ fn read_rule<'a>(
     tokens: &mut Names,
 ) -> Result<ScanRule<'a>, SpecFault>
     requires { length tokens.old + 1 < 2 ^ 32 }
-    ensures { IfOk result (λ rule. DeclaresRule line.now.text.now tokens.old tokens.new rule) }
+    ensures rule { IfOk result (λ rule. DeclaresRule line.now.text.now tokens.old tokens.new rule) }
+    ensures fault { IfErr result (IsFaultOfLine (line_of line.now)) }
 {
     let fault = SpecFault::Bad {
         line: line.number,

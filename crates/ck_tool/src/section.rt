@@ -1,5 +1,9 @@
-ghost use Rattle.std.specs.Prelude.{◌≡◌, ◌+◌, ◌^◌, ◌<◌, ◌≤◌, length, map, IfOk, IfSome};
-ghost use Rattle.ck_tool.specs.Sections.{AreBetween, IsEndAt, text_of};
+ghost use Rattle.std.specs.Prelude.{◌≡◌, ◌+◌, ◌^◌, ◌<◌, ◌≤◌, length, map, IfOk, IfErr, IfSome, MatchOption};
+ghost use Rattle.ck_base.specs.declared.fault.Kind.TheVariants.{Section as section};
+ghost use Rattle.ck_base.specs.declared.fault.SpecFault.TheVariants.{Bad as bad};
+ghost use Rattle.ck_tool.specs.RulesOfLines.{IsFaultOfSections, IsFirstEnd};
+ghost use Rattle.ck_tool.specs.Sections.{AreSections, NoneIsEnd};
+ghost use Rattle.ck_tool.specs.Seen.{line_of};
 
 use crate::line::{SpecLine, SpecLines};
 use crate::token::is_alone;
@@ -12,8 +16,10 @@ use ck_base::{Kind, SpecFault};
 pub(crate) fn rule_lines<'l, 's>(lines: &'l SpecLines<'s>) -> Result<&'l [SpecLine<'s>], SpecFault>
     requires { lines.now.count + 1 < 2 ^ 32 }
     ensures few { IfOk result (λ between. length between.now ≤ length lines.now.with_tokens.items) }
-    ensures between { IfOk result
-        (λ between. AreBetween (map text_of lines.now.with_tokens.items) (map text_of between.now)) }
+    ensures sections { IfOk result
+        (λ between. AreSections (map line_of lines.now.with_tokens.items) (map line_of between.now)) }
+    ensures fault { IfErr result
+        (IsFaultOfSections (lines.now.count + 1) (map line_of lines.now.with_tokens.items)) }
 {
     let missing = fault_at(lines.count + 1);
     let Some((first, rest)) = lines.with_tokens.split_first() else {
@@ -33,7 +39,8 @@ pub(crate) fn rule_lines<'l, 's>(lines: &'l SpecLines<'s>) -> Result<&'l [SpecLi
 
 /// The place of the first line that is `END`.
 fn place_of_end(lines: &[SpecLine<'_>]) -> Option<usize>
-    ensures { IfSome result (λ place. IsEndAt (map text_of lines.now) place) }
+    ensures end { MatchOption result (NoneIsEnd (map line_of lines.now)) (IsFirstEnd (map line_of lines.now)) }
+    ensures within { IfSome result (λ place. place < length lines.now) }
 {
     for (place, line) in lines.iter().enumerate() {
         if is_alone(line.text, b"END") {
@@ -44,7 +51,9 @@ fn place_of_end(lines: &[SpecLine<'_>]) -> Option<usize>
 }
 
 /// The sections don't stand as they must, at this line.
-fn fault_at(line: u32) -> SpecFault {
+fn fault_at(line: u32) -> SpecFault
+    ensures { result ≡ bad line section }
+{
     SpecFault::Bad {
         line,
         kind: Kind::Section,

@@ -1,11 +1,11 @@
-ghost use Rattle.std.specs.Prelude.{◌≡◌, ◌↔◌, ◌+◌, ◌≤◌, length, map, not, IsTrue, IfOk, IfSome};
+ghost use Rattle.std.specs.Prelude.{◌≡◌, ℕ, ◌+◌, ◌<◌, ◌≤◌, List, length, map, not, Some, None, IfOk, MatchOption};
 ghost use Rattle.rex_model.specs.Meaning.{meaning};
-ghost use Rattle.ck_tool.specs.LineTokens.{word, sign};
+ghost use Rattle.ck_tool.specs.LineTokens.{Lexeme, word};
 ghost use Rattle.ck_tool.specs.RuleShape.{Atom, RuleShape, is_unstarred};
 ghost use Rattle.ck_tool.specs.Seen.{seen};
-ghost use Rattle.ck_tool.specs.Shapes.{ArePieces, BeginsPieces, BeginsWithSign, is_star, token_count, repeated, IsAroundColon, declaration_of};
+ghost use Rattle.ck_tool.specs.Shapes.{AreNoPieces, ArePieces, BeginsPieces, BeginsWithSign, DeclareNothing, HaveNoBody, IsAroundColon, IsNoAtom, IsNoRule, IsRuleOf, is_star, token_count, repeated, declaration_of, name_of};
 
-use crate::token::Token;
+use crate::token::{Token, is_this_sign, is_word};
 use bumpalo::Bump;
 use bumpalo::collections::into_bump_slice;
 use ck_base::NoMemory;
@@ -25,7 +25,8 @@ pub(crate) fn rule_of<'a, 's>(
     arena: &'a Bump<Global>,
     tokens: &[Token<'s>],
 ) -> Result<Option<DeclaredRule<'a, 's>>, NoMemory>
-    ensures { IfOk result (λ found. IfSome found (λ rule. RuleShape (map seen tokens.now) (declaration_of rule))) }
+    ensures { IfOk result (λ found. MatchOption found (DeclareNothing (map seen tokens.now))
+        (λ rule. RuleShape (map seen tokens.now) (declaration_of rule))) }
 {
     let Some((pieces, token)) = around_colon(tokens) else {
         return Ok(None);
@@ -38,40 +39,64 @@ pub(crate) fn rule_of<'a, 's>(
 }
 
 /// What stands between `RULE` and `:`, and the name after `: TOKEN`; `None` for it after `: SKIP`.
+/// The name isn't `END`.
 fn around_colon<'t, 's>(tokens: &'t [Token<'s>]) -> Option<(&'t [Token<'s>], Option<&'s [u8]>)>
-    ensures { IfSome result (λ parts. IsAroundColon (map seen tokens.now) (map seen parts.0.now) parts.1) }
+    ensures { MatchOption result (IsNoRule (map seen tokens.now))
+        (λ parts. IsAroundColon (map seen tokens.now) (map seen parts.0.now) (name_of parts.1)) }
+{
+    if let Some(pieces) = pieces_of_skip(tokens) {
+        return Some((pieces, None));
+    }
+    let (pieces, name) = pieces_of_token(tokens)?;
+    if name == b"END".as_slice() {
+        None
+    } else {
+        Some((pieces, Some(name)))
+    }
+}
+
+/// What stands between `RULE` and `: SKIP`.
+fn pieces_of_skip<'t, 's>(tokens: &'t [Token<'s>]) -> Option<&'t [Token<'s>]>
+    ensures { MatchOption result ((pieces : List Lexeme) → IsRuleOf (map seen tokens.now) pieces None → ⊥)
+        (λ pieces. IsRuleOf (map seen tokens.now) (map seen pieces.now) None) }
 {
     let (first, rest) = tokens.split_first()?;
     let (last, rest) = rest.split_last()?;
-    let (before_last, pieces) = rest.split_last()?;
-    if !is_word(first, b"RULE") {
-        return None;
-    }
-    if is_sign(before_last, b':') && is_word(last, b"SKIP") {
-        return Some((pieces, None));
-    }
-    let (colon, pieces) = pieces.split_last()?;
-    match last {
-        Token::Word(name)
-            if is_sign(colon, b':')
-                && is_word(before_last, b"TOKEN")
-                && *name != b"END".as_slice() => { Some((pieces, Some(name))) }
-        _ => None,
+    let (colon, pieces) = rest.split_last()?;
+    if is_word(first, b"RULE") && is_this_sign(colon, b':') && is_word(last, b"SKIP") {
+        Some(pieces)
+    } else {
+        None
     }
 }
 
-/// Whether the token is this word.
-fn is_word(token: &Token<'_>, text: &[u8]) -> bool
-    ensures { IsTrue result ↔ (seen token.now ≡ word text.now) }
+/// What stands between `RULE` and `: TOKEN name`, and the name.
+fn pieces_of_token<'t, 's>(tokens: &'t [Token<'s>]) -> Option<(&'t [Token<'s>], &'s [u8])>
+    ensures { MatchOption result
+        ((pieces : List Lexeme) (name : List ℕ) → IsRuleOf (map seen tokens.now) pieces (Some name) → ⊥)
+        (λ found. IsRuleOf (map seen tokens.now) (map seen found.0.now) (Some found.1.now)) }
 {
-    matches!(token, Token::Word(bytes) if *bytes == text)
+    let (first, rest) = tokens.split_first()?;
+    let (last, rest) = rest.split_last()?;
+    let (before_last, rest) = rest.split_last()?;
+    let (colon, pieces) = rest.split_last()?;
+    let name = word_of(last)?;
+    if is_word(first, b"RULE") && is_this_sign(colon, b':') && is_word(before_last, b"TOKEN") {
+        Some((pieces, name))
+    } else {
+        None
+    }
 }
 
-/// Whether the token is this sign.
-fn is_sign(token: &Token<'_>, byte: u8) -> bool
-    ensures { IsTrue result ↔ (seen token.now ≡ sign byte) }
+/// The bytes of the token, where it is a word.
+fn word_of<'s>(token: &Token<'s>) -> Option<&'s [u8]>
+    ensures { MatchOption result ((text : List ℕ) → seen token.now ≡ word text → ⊥)
+        (λ text. seen token.now ≡ word text.now) }
 {
-    matches!(token, Token::Sign(sign) if *sign == byte)
+    match token {
+        Token::Word(text) => Some(text),
+        Token::Text(_) | Token::Class(_) | Token::Sign(_) => None,
+    }
 }
 
 /// The pieces one after the other; `None` where the tokens aren't pieces, or each piece has a `*`.
@@ -80,7 +105,8 @@ fn sequence_of<'a, 't, 's>(
     arena: &'a Bump<Global>,
     tokens: &'t [Token<'s>],
 ) -> Result<Option<Regex<'a>>, NoMemory>
-    ensures { IfOk result (λ found. IfSome found (λ body. ArePieces (map seen tokens.now) (meaning body))) }
+    ensures { IfOk result (λ found. MatchOption found (HaveNoBody (map seen tokens.now))
+        (λ body. ArePieces (map seen tokens.now) (meaning body))) }
 {
     let mut parts = Vec::new(arena);
     let mut has_unstarred = false;
@@ -135,7 +161,9 @@ fn first_piece<'a>(
     arena: &'a Bump<Global>,
     tokens: &[Token<'_>],
 ) -> Result<Option<(Regex<'a>, Repeat)>, NoMemory>
-    ensures { IfOk result (λ found. IfSome found (λ piece. BeginsPieces tokens.now (meaning piece.0) piece.1)) }
+    requires { 0 < length tokens.now }
+    ensures { IfOk result (λ found. MatchOption found (AreNoPieces (map seen tokens.now))
+        (λ piece. BeginsPieces tokens.now (meaning piece.0) piece.1)) }
 {
     let Some((token, after)) = tokens.split_first() else {
         return Ok(None);
@@ -152,23 +180,32 @@ fn first_repeat(tokens: &[Token<'_>]) -> Repeat
     ensures fits { token_count result ≤ length tokens.now + 1 }
     ensures signs { BeginsWithSign tokens.now result }
 {
-    match tokens.first() {
-        Some(Token::Sign(b'*')) => Repeat::Star,
-        Some(Token::Sign(b'+')) => Repeat::Plus,
-        _ => Repeat::Once,
+    let Some(token) = tokens.first() else {
+        return Repeat::Once;
+    };
+    if is_this_sign(token, b'*') {
+        Repeat::Star
+    } else if is_this_sign(token, b'+') {
+        Repeat::Plus
+    } else {
+        Repeat::Once
     }
 }
 
 /// The piece that is this token alone; `None` where that is an empty string, a word or a sign.
 fn atom_of<'a>(arena: &'a Bump<Global>, token: &Token<'_>) -> Result<Option<Regex<'a>>, NoMemory>
-    ensures { IfOk result (λ found. IfSome found (λ atom. Atom (seen token.now) (meaning atom))) }
+    ensures { IfOk result (λ found. MatchOption found (IsNoAtom (seen token.now))
+        (λ atom. Atom (seen token.now) (meaning atom))) }
 {
     match token {
-        Token::Text(text) if !text.is_empty() => {
+        Token::Text(text) => {
+            if text.is_empty() {
+                return Ok(None);
+            }
             Ok(Some(Regex::Bytes(arena.try_alloc_slice_copy(text)?)))
         }
         Token::Class(set) => Ok(Some(Regex::Class(*set))),
-        _ => Ok(None),
+        Token::Word(_) | Token::Sign(_) => Ok(None),
     }
 }
 

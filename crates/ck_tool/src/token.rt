@@ -1,7 +1,7 @@
-ghost use Rattle.std.specs.Prelude.{List, ◌≡◌, ◌<◌, ◌≤◌, true, [], ◌∷◌, length, map, IsTrue, IfOk, IfSome, slice_index};
+ghost use Rattle.std.specs.Prelude.{List, ◌≡◌, ◌↔◌, ◌<◌, ◌≤◌, true, Some, [], ◌∷◌, length, map, IsTrue, IfOk, MatchOption, slice_get, slice_index};
 ghost use Rattle.std.specs.List.{prefix_len};
-ghost use Rattle.ck_tool.specs.LineTokens.{Lexeme, word, LineTokens, is_blank, is_letter, word_len, text_len, class_len};
-ghost use Rattle.ck_tool.specs.Begins.{BeginsLine, CutsAt};
+ghost use Rattle.ck_tool.specs.LineTokens.{Lexeme, word, sign, BeginsWith, LineTokens, is_blank, is_letter, word_len, text_len, class_len};
+ghost use Rattle.ck_tool.specs.Begins.{BeginsWithNone, BeginsUnblank, HasNoTokens, CutsAt};
 ghost use Rattle.ck_tool.specs.Seen.{seen};
 
 use crate::bytes::{is_blank, is_blank_line, is_letter, is_sign, is_text_byte, is_word_byte};
@@ -26,7 +26,8 @@ pub(crate) enum Token<'s> {
 /// and tabs, as a number, a comment, another sign, or a byte that is neither a tab nor one from
 /// 0x20 to 0x7E. A word is as long as it can be, and tokens needn't be separated.
 pub(crate) fn tokens_of(alloc: Global, line: &[u8]) -> Result<Option<Vec<Token<'_>>>, NoMemory>
-    ensures { IfOk result (λ found. IfSome found (λ tokens. LineTokens line.now (map seen tokens.items))) }
+    ensures { IfOk result (λ found. MatchOption found (HasNoTokens line.now)
+        (λ tokens. LineTokens line.now (map seen tokens.items))) }
 {
     let mut tokens = Vec::new(alloc);
     let mut rest = after_blanks(line);
@@ -42,18 +43,33 @@ pub(crate) fn tokens_of(alloc: Global, line: &[u8]) -> Result<Option<Vec<Token<'
 
 /// Whether the line's only token is this word.
 pub(crate) fn is_alone(line: &[u8], name: &[u8]) -> bool
-    ensures { IsTrue result → LineTokens line.now (word name.now ∷ []) }
+    ensures { IsTrue result ↔ LineTokens line.now (word name.now ∷ []) }
 {
-    match first_token(after_blanks(line)) {
-        Some((Token::Word(bytes), rest)) => bytes == name && is_blank_line(rest),
-        _ => false,
-    }
+    let Some((token, rest)) = first_token(after_blanks(line)) else {
+        return false;
+    };
+    is_word(&token, name) && is_blank_line(rest)
+}
+
+/// Whether the token is this word.
+pub(crate) fn is_word(token: &Token<'_>, text: &[u8]) -> bool
+    ensures { IsTrue result ↔ (seen token.now ≡ word text.now) }
+{
+    matches!(token, Token::Word(bytes) if *bytes == text)
+}
+
+/// Whether the token is this sign.
+pub(crate) fn is_this_sign(token: &Token<'_>, byte: u8) -> bool
+    ensures { IsTrue result ↔ (seen token.now ≡ sign byte) }
+{
+    matches!(token, Token::Sign(sign) if *sign == byte)
 }
 
 /// What follows the blanks and tabs with which the bytes begin.
 fn after_blanks(bytes: &[u8]) -> &[u8]
     ensures fits { length result.now ≤ length bytes.now }
-    ensures tokens { (tokens : List Lexeme) → LineTokens result.now tokens → LineTokens bytes.now tokens }
+    ensures unblank { BeginsUnblank result.now }
+    ensures tokens { (tokens : List Lexeme) → LineTokens result.now tokens ↔ LineTokens bytes.now tokens }
 {
     &bytes[blank_len(bytes)..]
 }
@@ -68,7 +84,8 @@ fn blank_len(bytes: &[u8]) -> usize
 
 /// The token with which the bytes begin, and what follows it.
 fn first_token(bytes: &[u8]) -> Option<(Token<'_>, &[u8])>
-    ensures { IfSome result (λ found. BeginsLine bytes.now (seen found.0) found.1.now) }
+    ensures { MatchOption result (BeginsWithNone bytes.now)
+        (λ found. BeginsWith bytes.now (seen found.0) found.1.now) }
 {
     let (byte, after) = bytes.split_first()?;
     match *byte {
@@ -84,7 +101,7 @@ fn first_token(bytes: &[u8]) -> Option<(Token<'_>, &[u8])>
 fn word_token(bytes: &[u8]) -> (Token<'_>, &[u8])
     requires some { 0 < length bytes.now }
     requires letter { is_letter (slice_index bytes.now 0) ≡ true }
-    ensures { BeginsLine bytes.now (seen result.0) result.1.now }
+    ensures { BeginsWith bytes.now (seen result.0) result.1.now }
 {
     let len = word_len(bytes);
     (Token::Word(&bytes[..len]), &bytes[len..])
@@ -100,7 +117,8 @@ fn word_len(bytes: &[u8]) -> usize
 
 /// The string whose first quote stands before the bytes, and what follows its second quote.
 fn text_token(bytes: &[u8]) -> Option<(Token<'_>, &[u8])>
-    ensures { IfSome result (λ found. BeginsLine (34 ∷ bytes.now) (seen found.0) found.1.now) }
+    ensures { MatchOption result (BeginsWithNone (34 ∷ bytes.now))
+        (λ found. BeginsWith (34 ∷ bytes.now) (seen found.0) found.1.now) }
 {
     let (text, after) = cut_at(bytes, text_len(bytes), b'"')?;
     Some((Token::Text(text), after))
@@ -115,7 +133,8 @@ fn text_len(bytes: &[u8]) -> usize
 
 /// The class whose `[` stands before the bytes, and what follows its `]`.
 fn class_token(bytes: &[u8]) -> Option<(Token<'_>, &[u8])>
-    ensures { IfSome result (λ found. BeginsLine (91 ∷ bytes.now) (seen found.0) found.1.now) }
+    ensures { MatchOption result (BeginsWithNone (91 ∷ bytes.now))
+        (λ found. BeginsWith (91 ∷ bytes.now) (seen found.0) found.1.now) }
 {
     let (inside, after) = cut_at(bytes, class_len(bytes), b']')?;
     Some((Token::Class(class_set(inside)?), after))
@@ -130,7 +149,8 @@ fn class_len(bytes: &[u8]) -> usize
 
 /// The first `len` bytes and what follows the byte after them, where that is `end`.
 fn cut_at(bytes: &[u8], len: usize, end: u8) -> Option<(&[u8], &[u8])>
-    ensures { IfSome result (λ cut. CutsAt bytes.now len end cut.0.now cut.1.now) }
+    ensures { MatchOption result (slice_get bytes.now len ≡ Some end → ⊥)
+        (λ cut. CutsAt bytes.now len end cut.0.now cut.1.now) }
 {
     if *bytes.get(len)? == end {
         Some((&bytes[..len], &bytes[len + 1..]))

@@ -1,11 +1,10 @@
-ghost use Rattle.std.specs.Prelude.{◌≡◌, ◌^◌, ◌<◌, ◌≤◌, ℕ, List, length, map, string_bytes, IfOk, IfErr, IsOkAnd};
-ghost use Rattle.ck_base.specs.declared.refusal.Refusal.{Refusal as refusal};
-ghost use Rattle.ck_io.specs.Contents.{IsTold, SameContents};
+ghost use Rattle.std.specs.Prelude.{◌≡◌, ◌^◌, ◌<◌, ◌≤◌, ◌⊎◌, ℕ, List, length, map, string_bytes, IfOk, IfErr};
+ghost use Rattle.ck_io.specs.Contents.{IsLonger, IsTold, SameContents};
 ghost use Rattle.ck_io.specs.Faults.{Rose, NoneFell};
-ghost use Rattle.ck_tool.specs.Outcome.{Wanted, Ran, UsageExactly};
-ghost use Rattle.ck_tool.specs.Stops.{IsOfText, IsStopOfRead, IsStopOfRun};
+ghost use Rattle.ck_tool.specs.Outcome.{Answers, AreTold, NoneFailed, Outcome, Ran, ReadFailed, TokensOf, UsageExactly, Wanted, WantedMemory, output as output_of};
+ghost use Rattle.ck_tool.specs.Stops.{IsFound, IsStopOfRead, IsStopOfTokens, ReadOfTokensFailed};
 ghost use Rattle.ck_tool.specs.Tells.{Explains};
-ghost use Rattle.ck_tool.specs.Words.{AreTokens, AreRight};
+ghost use Rattle.ck_tool.specs.Words.{AreRight};
 
 use crate::reader::read_rules;
 use crate::stop::Stop;
@@ -40,7 +39,21 @@ pub fn cocktail<F: Files, O: Sink, E: Sink>(
 ) -> Status
     ensures run { Ran (map string_bytes words.now.items)
         (Wanted (F.contents files.old) (map string_bytes words.now.items))
-        (λ name. Rose (F.faults files.old name) (F.faults files.new name))
+        (ReadFailed (F.contents files.old) (map string_bytes words.now.items) (F.faults files.old) (F.faults files.new))
+        (record { old = O.written out.old; new = O.written out.new; before = O.faults out.old; now = O.faults out.new })
+        (record { old = E.written err.old; new = E.written err.new; before = E.faults err.old; now = E.faults err.new })
+        result }
+    ensures exactly { AreTold (F.contents files.old) (map string_bytes words.now.items)
+        → NoneFailed
+        (ReadFailed (F.contents files.old) (map string_bytes words.now.items) (F.faults files.old) (F.faults files.new))
+        (record { old = O.written out.old; new = O.written out.new; before = O.faults out.old; now = O.faults out.new })
+        (record { old = E.written err.old; new = E.written err.new; before = E.faults err.old; now = E.faults err.new })
+        → (answer : Outcome) → Wanted (F.contents files.old) (map string_bytes words.now.items) answer
+        → Answers answer
+        (record { old = O.written out.old; new = O.written out.new; before = O.faults out.old; now = O.faults out.new })
+        (record { old = E.written err.old; new = E.written err.new; before = E.faults err.old; now = E.faults err.new })
+        result
+        ⊎ WantedMemory (map string_bytes words.now.items)
         (record { old = O.written out.old; new = O.written out.new; before = O.faults out.old; now = O.faults out.new })
         (record { old = E.written err.old; new = E.written err.new; before = E.faults err.old; now = E.faults err.new })
         result }
@@ -51,16 +64,18 @@ pub fn cocktail<F: Files, O: Sink, E: Sink>(
     let Some(command) = command_of(words) else {
         return tell(err, USAGE_LINE, Status::Usage);
     };
-    let found = output_of(alloc, command, files);
+    let found = answer_of(alloc, command, files);
     finish(alloc, found, out, err)
 }
 
 /// The output that the command asks for, or why there is none.
-fn output_of<F: Files>(alloc: Global, command: Command, files: &mut F) -> Result<Vec<u8>, Stop>
-    ensures output { IfOk result (λ output. (words : List (List ℕ)) → AreTokens words command.entry.spec.now command.entry.source.now
-        → Wanted (F.contents files.old) words output.items) }
-    ensures stop { IfErr result (IsStopOfRun command.entry.spec.now command.entry.source.now
-        (λ name. Rose (F.faults files.old name) (F.faults files.new name))) }
+fn answer_of<F: Files>(alloc: Global, command: Command, files: &mut F) -> Result<Vec<u8>, Stop>
+    ensures output { IfOk result (λ bytes. TokensOf (F.contents files.old command.entry.spec.now)
+        (F.contents files.old command.entry.source.now) (output_of bytes.items)) }
+    ensures stop { IfErr result (IsStopOfTokens (F.contents files.old command.entry.spec.now)
+        (F.contents files.old command.entry.source.now)
+        (ReadOfTokensFailed (F.contents files.old) command.entry.spec.now command.entry.source.now
+        (F.faults files.old) (F.faults files.new))) }
 {
     let spec = read(alloc, files, command.spec, SPEC_LIMIT, Refusal::SpecTooLong)?;
     let arena = Bump::new(alloc);
@@ -86,7 +101,8 @@ fn read<F: Files>(
     requires { limit < 2 ^ 32 }
     ensures all { IfOk result (λ bytes. IsTold (F.contents files.old name.now) bytes.items) }
     ensures within { IfOk result (λ bytes. length bytes.items ≤ limit) }
-    ensures stop { IfErr result (IsStopOfRead too_long (Rose (F.faults files.old name.now) (F.faults files.new name.now))) }
+    ensures stop { IfErr result (IsStopOfRead too_long (IsLonger (F.contents files.old name.now) limit)
+        (Rose (F.faults files.old name.now) (F.faults files.new name.now))) }
     ensures same { SameContents (F.contents files.old) (F.contents files.new) }
     ensures later { NoneFell (F.faults files.old) (F.faults files.new) }
 {
@@ -105,9 +121,8 @@ fn finish<O: Sink, E: Sink>(
     out: &mut O,
     err: &mut E,
 ) -> Status
-    requires { (r : refusal) → found ≡ Err (Stop.Refused r) → IsOfText r }
     ensures { (words : List (List ℕ)) → AreRight words
-        → Ran words (λ bytes. IsOkAnd found (λ output. output.items ≡ bytes)) (λ _. found ≡ Err Stop.ReadFault)
+        → Ran words (IsFound found) (found ≡ Err Stop.ReadFault)
         (record { old = O.written out.old; new = O.written out.new; before = O.faults out.old; now = O.faults out.new })
         (record { old = E.written err.old; new = E.written err.new; before = E.faults err.old; now = E.faults err.new })
         result }

@@ -1,10 +1,14 @@
--- The bytes of the pattern are the first ones of the inside.
-use Rattle.std.proofs.Common.{rules, arith}
-use Rattle.ck_tool.proofs.ClassSpans.{begins_single, begins_range}
+-- The span is a range or a single character, or there is none.
+use Rattle.ck_tool.proofs.ClassSpans.{begins_single, begins_range, no_range_there}
 use Rattle.ck_tool.proofs.class.first_span.Goals as goal
 
-pub returns-in-45 : goal.returns-in-45
-returns-in-45 c = begins_range c.args.inside.now (omega arith) (omega arith) (search rules) (search rules) (omega arith)
+pub returns-then-is_span : goal.returns-then-is_span
+returns-then-is_span c = begins_range _ _ _ _ _ c.in_ok-first.ensures.cases.0 c.in-Some.ensures (c.is_span.ensures.0 c.if-is_span.true)
 
-pub returns-in-len1-up : goal.returns-in-len1-up
-returns-in-len1-up c = begins_single c.args.inside.now (search rules) (search rules)
+pub returns-else-is_span : goal.returns-else-is_span
+returns-else-is_span c = no_range_there _ _ _ _ _ c.in_ok-first.ensures.cases.0 c.in-Some.ensures (λ is.
+    let so = c.is_span.ensures.1 is in
+    cc)
+
+pub returns-then-is_span-2 : goal.returns-then-is_span-2
+returns-then-is_span-2 c = begins_single _ _ _ c.in_ok-first.ensures.cases.0 c.in_default.ensures (c.is_span-2.ensures.0 c.if-is_span-2.true)

@@ -2,15 +2,18 @@
 use Rattle.std.proofs.Common.{map, refl}
 use Rattle.ck_tool.specs.Seen.{seen}
 use Rattle.ck_tool.specs.Shapes.{declaration_of}
+use Rattle.ck_tool.proofs.OneShape.{no_rule_of_line}
 use Rattle.ck_tool.proofs.TokensMet.{met_once, is_number}
 use Rattle.ck_tool.proofs.reader.read_rule.Goals as goal
 
-pub returns : goal.returns
-returns c = record {
-  tokens = map seen c.in-Some.line_tokens.items;
+pub returns-clause-rule : goal.returns-clause-rule
+returns-clause-rule c = record {
   declared = declaration_of c.in-Some-2.declared;
-  line_tokens = rw c.in-Some.is at c.in_ok-line_tokens.ensures;
-  shape = rw c.as_slice.ensures.value at (rw c.in-Some-2.is at c.in_ok-declared.ensures);
+  by_line = record {
+    tokens = map seen c.in-Some.line_tokens.items;
+    are_tokens = rw c.in-Some.is at c.in_ok-line_tokens.ensures;
+    shape = rw c.as_slice.ensures.value at (rw c.in-Some-2.is at c.in_ok-declared.ensures);
+  };
   met = met_once _ _ _ _ _ refl c.in_ok-number_of.ensures;
   is_rule = record {
     states = c.in_ok-only_std.ensures;
@@ -20,3 +23,8 @@ returns c = record {
     next = refl;
   };
 }
+
+pub returns-in_default-2-clause-fault : goal.returns-in_default-2-clause-fault
+returns-in_default-2-clause-fault c =
+    let nothing = rw c.as_slice.ensures.value at (rw c.in_default-2.is at c.in_ok-declared.ensures) in
+    (refl, refl, no_rule_of_line _ _ (rw c.in-Some.is at c.in_ok-line_tokens.ensures) nothing)

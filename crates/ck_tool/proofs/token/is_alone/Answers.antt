@@ -1,15 +1,21 @@
--- The word is the first token, and blanks follow.
-use Rattle.std.proofs.Common.{◌≡◌, ap, sym, ◌∙◌}
-use Rattle.std.proofs.lemmas.Slice.Eq.{bytes_eq-Decides}
+-- The word is the first token, and blanks follow; or something else does.
+use Rattle.std.proofs.Common.{sym, ◌∙◌}
 use Rattle.ck_tool.specs.LineTokens.{word}
-use Rattle.ck_tool.specs.Seen.{seen}
-use Rattle.ck_tool.proofs.TokenSteps.{one_token}
+use Rattle.ck_tool.proofs.TokenSteps.{one_token, only_token}
 use Rattle.ck_tool.proofs.token.is_alone.Goals as goal
 
-pub returns-then-eq : goal.returns-then-eq
-returns-then-eq c =
-    let arm = c.in-Some-Word-default in
-    let name = c.args.name.now in
-    let same : arm.bytes.now ≡ name = (bytes_eq-Decides arm.bytes.now name).0 (sym c.eq.ensures ∙ c.if-eq.true) in
-    let token : seen arm.field-0-0 ≡ word name = ap seen arm.field-0-0-is ∙ ap word same in
-    λ blanks. one_token _ _ _ (word name) c.after_blanks.ensures.tokens (rw token at arm.ensures) (sym c.is_blank_line.ensures ∙ blanks)
+pub returns-then-is_word : goal.returns-then-is_word
+returns-then-is_word c =
+    let name = c.is_word.ensures.0 c.if-is_word.true in
+    let begins = rw name at c.in-Some.ensures in
+    let line = c.after_blanks.ensures in (
+      λ blanks. one_token _ _ _ (word c.args.name.now) line.tokens line.unblank begins (sym c.is_blank_line.ensures ∙ blanks),
+      λ are. c.is_blank_line.ensures ∙ (only_token _ _ _ _ (word c.args.name.now) line.tokens line.unblank begins are).1,
+    )
+
+pub returns-else-is_word : goal.returns-else-is_word
+returns-else-is_word c =
+    let line = c.after_blanks.ensures in (
+      λ is. (cc),
+      λ are. c.is_word.ensures.1 (only_token _ _ _ _ (word c.args.name.now) line.tokens line.unblank c.in-Some.ensures are).0,
+    )

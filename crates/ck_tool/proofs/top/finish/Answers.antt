@@ -1,3 +1,4 @@
+-- The output was written, or a part of it; or the stop was explained.
 use Rattle.std.proofs.Common.{◌≡◌, Err, refl, ap, ◌∙◌}
 use Rattle.ck_tool.specs.Outcome.{done}
 use Rattle.ck_tool.specs.declared.stop.Stop.{Stop}
@@ -17,4 +18,4 @@ returns-in-Ok g c = λ words right.
 pub returns : goal.returns
 returns g c = λ words right.
     let found = λ (stop : Stop) (is : c.in-Err.stop ≡ stop). c.in-Err.is ∙ ap (λ other. Err other) is in
-    by_stop _ _ _ _ _ _ c.in-Err.stop right (λ r is. c.requires r (found (Refused r) is)) (λ is name. found ReadFault is) refl c.explain.ensures
+    by_stop _ _ _ _ _ _ c.in-Err.stop right (λ r is. rw (found (Refused r) is) refl) (λ is. found ReadFault is) refl c.explain.ensures

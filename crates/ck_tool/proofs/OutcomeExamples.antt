@@ -1,0 +1,91 @@
+-- The answer of a run and the names that it reads, tried on cases that are worked by hand.
+use Rattle.std.proofs.Common.{◌≡◌, ℕ, List, [], ◌∷◌, ◌++◌, length, Option, Some, None, codes, refl, arith}
+use Rattle.std.specs.Prelude.{slice_get}
+use Rattle.std.specs.Fmt.{digits}
+use Rattle.ck_base.specs.declared.fault.Kind.TheVariants.{Section}
+use Rattle.ck_base.specs.declared.refusal.Refusal.TheVariants as refusal
+use Rattle.ck_io.specs.Contents.{IsTold}
+use Rattle.rex_model.specs.Run.{Tokens}
+use Rattle.rex_model.specs.declared.rules.ScanRules.{ScanRules}
+use Rattle.ck_tool.specs.Declares.{no_rules, no_more}
+use Rattle.ck_tool.specs.Outcome.{output, refused, RefusesSpec, too_long, faulty, Accepts, bad_token, printed, by_spec, by_source, Wanted, wrong_words, tokens, reads_spec, reads_source, Reads}
+use Rattle.ck_tool.specs.Words.{AreTokens, AreRight}
+use Rattle.ck_tool.proofs.DeclarationExamples.{no_rule, declares_nothing, empty_spec}
+use Rattle.ck_tool.proofs.OneFault.{no_fault}
+
+-- the words `tokens s x`
+abbrev pub words : List (List ℕ)
+words = codes "tokens" ∷ codes "s" ∷ codes "x" ∷ []
+
+are_tokens : AreTokens words (codes "s") (codes "x")
+are_tokens = record { words_are = refl; is_spec = λ e. cc; is_source = λ e. cc }
+
+-- two words are wrong, and Usage is the answer
+one_file : (contents : List ℕ → Option (List ℕ)) → Wanted contents (codes "tokens" ∷ codes "s" ∷ []) (refused refusal.Usage)
+one_file contents = wrong_words wrong
+  where
+    wrong : AreRight (codes "tokens" ∷ codes "s" ∷ []) → ⊥
+    wrong (spec, source, are) = let is = are.words_are in cc
+
+-- rules that the specification without rules declares
+abbrev AreNone : ScanRules → Type 0
+AreNone rules = (rules.states ≡ codes "STD" ∷ []) × (rules.tokens ≡ []) × (rules.rules.items ≡ [])
+
+accepts_none : (rules : ScanRules) → AreNone rules → Accepts no_rule rules
+accepts_none rules (states, names, items) = record {
+  fits = omega arith;
+  declares = record {
+    declared = [];
+    by_lines = declares_nothing;
+    states = states;
+    tokens = rw names (no_more []);
+    are_rules = rw items no_rules;
+  };
+}
+
+module _ (contents : List ℕ → Option (List ℕ)) where
+  -- no rules and an empty source: `1:1 END` is printed
+  wants_end : (rules : ScanRules) → AreNone rules → contents (codes "s") ≡ Some no_rule → contents (codes "x") ≡ Some []
+      → Wanted contents words (output (codes "1:1 END" ++ 10 ∷ []))
+  unfolding digits
+  wants_end rules none spec source = tokens (codes "s") (codes "x") _ are_tokens (by_source no_rule [] rules _ (rw spec refl)
+      (accepts_none rules none) (rw source refl) (printed (omega arith) [] (Tokens.end 0 0 refl)))
+
+  -- no rules and any byte: its place is bad
+  wants_bad_token : (rules : ScanRules) → AreNone rules → contents (codes "s") ≡ Some no_rule → contents (codes "x") ≡ Some (codes "a")
+      → Wanted contents words (refused (refusal.BadToken 1 1))
+  wants_bad_token rules none spec source = tokens (codes "s") (codes "x") _ are_tokens (by_source no_rule (codes "a") rules _ (rw spec refl)
+      (accepts_none rules none) (rw source refl) (bad_token (omega arith) [] 0 (Tokens.bad 0 0 (omega arith) (λ i n m c.
+      let is = c.is_rule in
+      let nowhere : slice_get [] i ≡ Some c.rule = rw none.2 at is in
+      cc))))
+
+  -- an empty specification is refused for its first line, whatever the source is
+  wants_bad_spec : contents (codes "s") ≡ Some [] → Wanted contents words (refused (refusal.BadSpec 1 Section))
+  wants_bad_spec spec = tokens (codes "s") (codes "x") _ are_tokens (by_spec [] _ (rw spec refl) (faulty (omega arith) 1 Section empty_spec))
+
+  -- and the source isn't read then
+  refused_reads_no_source : contents (codes "s") ≡ Some [] → Reads contents words (codes "x") → ⊥
+  refused_reads_no_source told (Reads.tokens spec source are (reads_spec)) =
+      let is = are.words_are in
+      let other : codes "x" ≡ codes "s" = cc in
+      let byte : ◌≡◌ {A = ℕ} 120 115 = cc in
+      omega arith
+  refused_reads_no_source told (Reads.tokens spec source are (reads_source bytes rules is accepts)) =
+      let names = are.words_are in
+      let name : spec ≡ codes "s" = cc in
+      let empty : bytes ≡ [] = told_bytes (contents spec) bytes [] is (rw name told) in
+      let declares = rw empty at accepts.declares.by_lines in
+      no_fault [] accepts.declares.declared 1 Section declares empty_spec
+    where
+      told_bytes : (told : Option (List ℕ)) (bytes others : List ℕ) → IsTold told bytes → told ≡ Some others → bytes ≡ others
+      told_bytes None bytes others is at = cc
+      told_bytes (Some all) bytes others is at = cc
+
+-- a specification with the very last byte that it may have isn't too long
+at_the_limit : (spec : List ℕ) → length spec ≡ 1048576 → RefusesSpec spec refusal.SpecTooLong → ⊥
+at_the_limit spec size (too_long longer) = omega arith
+
+-- one with a byte more is, whatever stands in it
+past_the_limit : (spec : List ℕ) → length spec ≡ 1048577 → RefusesSpec spec refusal.SpecTooLong
+past_the_limit spec size = too_long (omega arith)

@@ -1,0 +1,8 @@
+-- None of the lines so far is END.
+use Rattle.std.proofs.Common.{map, take}
+use Rattle.ck_tool.specs.Sections.{NoneIsEnd}
+use Rattle.ck_tool.specs.Seen.{line_of}
+use Rattle.ck_tool.proofs.section.place_of_end.Given as goal
+
+abbrev pub invariant-loop-place : goal.invariant-loop-place
+invariant-loop-place l = NoneIsEnd (take l.place (map line_of l.lines))

@@ -1,0 +1,11 @@
+ghost use Rattle.std.specs.Prelude.{◌≡◌, ℕ, List, map, string_bytes};
+ghost use Rattle.ck_tool.specs.Outcome.{AreTold, Outcome, Wanted};
+
+use ck_io::Files;
+
+/// Law: a run has at most one answer to give, where the files that it reads are told.
+pub fn at_most_one_answer<F: Files>(words: &Vec<String>, files: &F)
+    ensures { (a b : Outcome) → AreTold (F.contents files.now) (map string_bytes words.now.items)
+        → Wanted (F.contents files.now) (map string_bytes words.now.items) a
+        → Wanted (F.contents files.now) (map string_bytes words.now.items) b → a ≡ b }
+{}
