@@ -3,7 +3,8 @@ use Rattle.std.proofs.Common.{◌≡◌, ℕ, zero, suc, ◌^◌, ◌<◌, inl, 
 use Rattle.std.specs.Prelude.{codes, IsBitSet}
 use Rattle.std.specs.Fmt.{digits}
 use Rattle.ck_base.specs.declared.fault.Kind.TheVariants.{Syntax, Typing}
-use Rattle.ck_base.specs.declared.refusal.Refusal.TheVariants.{BadSpec, SourceTooLong, BadToken}
+use Rattle.ck_base.specs.declared.refusal.TheConstants.{USAGE_LINE, READ_LINE, WRITE_LINE, MEMORY_LINE}
+use Rattle.ck_base.specs.declared.refusal.Refusal.TheVariants.{Usage, BadSpec, SourceTooLong, BadToken}
 use Rattle.ck_base.specs.declared.status.Status.TheVariants as status
 use Rattle.ck_base.specs.BitSet.{BitSet, Has, IsEmpty, Adds, Grew}
 use Rattle.ck_base.specs.Lines.{line_of, status_of, code_of}
@@ -25,6 +26,19 @@ typing_is_type = refl
 token_of_line_1 : line_of (BadToken 1 4) ≡ codes "source:1:4: bad token"
 unfolding digits
 token_of_line_1 = refl
+
+-- the lines that are constants
+usage_line : USAGE_LINE.now ≡ line_of Usage
+usage_line = refl
+
+read_line : READ_LINE.now ≡ codes "device: read fault"
+read_line = refl
+
+write_line : WRITE_LINE.now ≡ codes "device: write fault"
+write_line = refl
+
+memory_line : MEMORY_LINE.now ≡ codes "out of memory"
+memory_line = refl
 
 -- a source that is too long is the source's fault
 too_long_is_source : status_of SourceTooLong ≡ status.Source
