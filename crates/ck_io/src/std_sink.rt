@@ -1,4 +1,5 @@
-ghost use Rattle.std.specs.Prelude.{◌≡◌, None};
+ghost use Rattle.std.specs.Prelude.{◌≡◌, ◌<◌, ◌≤◌, length, IfOk, OnOk, OnErr, None};
+ghost use Rattle.ck_io.specs.Faults.{one_more};
 
 use crate::files::Failed;
 use crate::sink::Sink;
@@ -36,7 +37,16 @@ impl<W: Write + Drop> Sink for StdSink<W> {
 
     ghost faults = { λ sink. sink };
 
-    fn put(&mut self, bytes: &[u8]) -> Result<usize, Failed> {
+    fn put(&mut self, bytes: &[u8]) -> Result<usize, Failed>
+        requires { 0 < length bytes.now }
+        ensures some { IfOk result (λ n. 0 < n) }
+        ensures within { IfOk result (λ n. n ≤ length bytes.now) }
+        ensures later { self.old ≤ self.new }
+
+        // Beyond what all `Sink`s promise: a failed put counts one more.
+        ensures ok { OnOk result (self.new ≡ self.old) }
+        ensures err { OnErr result (self.new ≡ one_more self.old) }
+    {
         match self.inner.write(bytes) {
             Ok(n) if n > 0 => Ok(n),
             _ => {
