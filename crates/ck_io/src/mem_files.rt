@@ -1,5 +1,5 @@
-ghost use Rattle.std.specs.Prelude.{◌≡◌, ◌<◌, ◌≤◌, ◌↔◌, ℕ, List, length, IfOk, IsErr, OnOk, OnErr, None};
-ghost use Rattle.ck_io.specs.Contents.{AddsFile, ReadsAt, SameContents};
+ghost use Rattle.std.specs.Prelude.{◌≡◌, ◌<◌, ◌≤◌, ◌↔◌, ℕ, List, length, IfOk, IfSome, IsErr, OnOk, OnErr, None};
+ghost use Rattle.ck_io.specs.Contents.{AddsFile, ReadsAt, SameContents, part_len};
 ghost use Rattle.ck_io.specs.Faults.{one_more, SameFaults, NoneFell};
 ghost use Rattle.ck_io.specs.MemFiles.{contents_of, faults_of, CountsFault, IsFailing};
 
@@ -90,8 +90,11 @@ impl Files for MemFiles {
         ensures kept { OnOk result (SameFaults (faults_of self.old) (faults_of self.new)) }
         ensures later { NoneFell (faults_of self.old) (faults_of self.new) }
 
-        // Beyond what all `Files` promise: which reads fail, and whose count has one more.
+        // Beyond what all `Files` promise: which reads fail, how much a read gives, and whose count
+        // has one more.
         ensures failing { IsErr result ↔ IsFailing self.old name.now }
+        ensures count { IfOk result (λ n. IfSome (contents_of self.old name.now)
+            (λ all. n ≡ part_len all at (length into.old))) }
         ensures counted { OnErr result (CountsFault self.old self.new name.now) }
         ensures calls { self.new.calls ≡ one_more self.old.calls }
         ensures fails { self.new.fails ≡ self.old.fails }
