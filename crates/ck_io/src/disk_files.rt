@@ -44,8 +44,8 @@ impl<'a, R: rt::Files> Files for DiskFiles<'a, R> {
         ensures later { self.old ≤ self.new }
 
         // Beyond what all `Files` promise: a failed read counts one more.
-        ensures ok { OnOk result (self.new ≡ self.old) }
-        ensures err { OnErr result (self.new ≡ one_more self.old) }
+        ensures kept { OnOk result (self.new ≡ self.old) }
+        ensures counted { OnErr result (self.new ≡ one_more self.old) }
     {
         match read_part(self.rt, name, at, into) {
             Ok(n) => Ok(n),

@@ -47,8 +47,8 @@ impl<W: Write + Drop> Sink for StdSink<W> {
 
         // Beyond what all `Sink`s promise: a failed put counts one more, and of the bytes the writer
         // has those that were taken.
-        ensures ok { OnOk result (self.new.faults ≡ self.old.faults) }
-        ensures err { OnErr result (self.new.faults ≡ one_more self.old.faults) }
+        ensures kept { OnOk result (self.new.faults ≡ self.old.faults) }
+        ensures counted { OnErr result (self.new.faults ≡ one_more self.old.faults) }
         ensures writes { WriteAppends (W.contents self.old.writer) (W.contents self.new.writer)
             result bytes.now }
     {

@@ -8,7 +8,7 @@ read_at-tells g c = record {
   within = c.ensures.within;
   part = IfOk-weaker c.result _ _ (λ n within. tt) c.ensures.within;
   same = λ name. refl;
-  kept = on_ok_weaker c.result (λ same name. same) c.ensures.ok;
-  cause = on_err_weaker c.result (λ more. omega (arith, more)) c.ensures.err;
+  kept = on_ok_weaker c.result (λ same name. same) c.ensures.kept;
+  cause = on_err_weaker c.result (λ more. omega (arith, more)) c.ensures.counted;
   later = λ name. c.ensures.later;
 }
