@@ -1,5 +1,5 @@
 -- The definitions, tried on known cases.
-use Rattle.std.proofs.Common.{◌≡◌, ℕ, zero, suc, ◌^◌, ◌<◌, inl, inr, refl, sym, ap, subst, lit<, arith, List, [], ◌∷◌, ◌++◌, length, Contains, Vec, Global, slice_index, bit_or, ◌/◌, ◌%◌}
+use Rattle.std.proofs.Common.{◌≡◌, ℕ, zero, suc, ◌^◌, inl, inr, refl, sym, ap, subst, lit<, arith, List, [], ◌∷◌, ◌++◌, length, Contains, Vec, Global, slice_index, bit_or, ◌/◌, ◌%◌}
 use Rattle.std.specs.Prelude.{codes, IsBitSet}
 use Rattle.std.specs.Fmt.{digits}
 use Rattle.ck_base.specs.declared.fault.Kind.TheVariants.{Syntax, Typing}
@@ -10,7 +10,6 @@ use Rattle.ck_base.specs.BitSet.{BitSet, Has, IsEmpty, Adds, Grew}
 use Rattle.ck_base.specs.Lines.{line_of, status_of, code_of}
 use Rattle.ck_base.specs.Numbered.{texts, AreNumbered, Interns, known, added}
 use Rattle.ck_base.specs.Words.{IsFit, AreJoined, Differ}
-use Rattle.ck_base.proofs.WordsActAsSets.{empty_of_zeros}
 
 -- the kind stands after the line
 syntax_of_line_2 : line_of (BadSpec 2 Syntax) ≡ codes "spec:2: syntax"
@@ -80,11 +79,11 @@ lacks_70 has = omega (arith, has.0)
 
 -- to be empty is to have no number, not to have no room for one
 zeros_are_empty : IsEmpty (record { size = 70; words = 0 ∷ 0 ∷ [] })
-zeros_are_empty = empty_of_zeros 70 (0 ∷ 0 ∷ []) zeros where
-  zeros : (k : ℕ) → k < 2 → slice_index (0 ∷ 0 ∷ []) k ≡ 0
-  zeros zero within = refl
-  zeros (suc zero) within = refl
-  zeros (suc (suc k)) within = absurd (omega arith)
+zeros_are_empty i has = lacks (i / 64) (i % 64) has.1 where
+  lacks : (k j : ℕ) → IsBitSet (slice_index (0 ∷ 0 ∷ []) k) j → ⊥
+  lacks zero j bit = bit refl
+  lacks (suc zero) j bit = bit refl
+  lacks (suc (suc k)) j bit = bit refl
 
 -- a number that was in the set is in it once more, not out of it
 added_again : Adds one_and_64 one_and_64 (λ k. k ≡ 1)

@@ -1,5 +1,5 @@
 -- What is told of files and sinks, and counts of faults, tried on cases that are worked by hand.
-use Rattle.std.proofs.Common.{◌≡◌, ◌≢◌, ℕ, zero, suc, ◌-◌, ◌^◌, inl, inr, lit<, false, List, [], ◌∷◌, length, slice_index, Option, Some, None, unwrap_or, Ok, Err, codes, refl, ap, arith}
+use Rattle.std.proofs.Common.{◌≡◌, ◌≢◌, ℕ, zero, suc, ◌-◌, ◌^◌, inl, inr, lit<, false, List, [], ◌∷◌, length, slice_index, Some, None, unwrap_or, Ok, Err, codes, refl, ap, arith}
 use Rattle.ck_io.specs.Contents.{IsPart, part_len, ReadsAt, IsTold, IsLonger, FitsIn, SameContents, AddsFile, Appends}
 use Rattle.ck_io.specs.Faults.{one_more, Rose, SameFaults, NoneFell}
 use Rattle.ck_io.specs.Folder.{File, has_name, place_in, bytes_at, bytes_in, with_file}
