@@ -7,7 +7,7 @@ use crate::sink::Sink;
 use std::io::Write;
 use std::marker::Model;
 
-/// A writer of std, of whose bytes nothing is told.
+/// A writer of std. As a sink it tells nothing of its bytes, since a writer needn't.
 ///
 /// Contracts see the writer and the count of its failed puts; a write that takes no byte is one of
 /// them.
