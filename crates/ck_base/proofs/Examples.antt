@@ -1,13 +1,15 @@
 -- The definitions, tried on known cases.
-use Rattle.std.proofs.Common.{◌≡◌, ℕ, zero, suc, refl, lit<, arith, List, [], ◌∷◌, Contains}
-use Rattle.std.specs.Prelude.{codes}
+use Rattle.std.proofs.Common.{◌≡◌, ℕ, zero, suc, ◌^◌, inl, inr, refl, sym, ap, subst, lit<, arith, List, [], ◌∷◌, ◌++◌, length, Contains, Vec, Global, slice_index, bit_or, ◌/◌, ◌%◌}
+use Rattle.std.specs.Prelude.{codes, IsBitSet}
 use Rattle.std.specs.Fmt.{digits}
 use Rattle.ck_base.specs.declared.fault.Kind.TheVariants.{Syntax, Typing}
-use Rattle.ck_base.specs.declared.refusal.Refusal.TheVariants.{BadSpec, SourceTooLong, BadToken}
+use Rattle.ck_base.specs.declared.refusal.TheConstants.{USAGE_LINE, READ_LINE, WRITE_LINE, MEMORY_LINE}
+use Rattle.ck_base.specs.declared.refusal.Refusal.TheVariants.{Usage, BadSpec, SourceTooLong, BadToken}
 use Rattle.ck_base.specs.declared.status.Status.TheVariants as status
-use Rattle.ck_base.specs.BitSet.{BitSet, Has}
+use Rattle.ck_base.specs.BitSet.{BitSet, Has, IsEmpty, Adds, Grew}
 use Rattle.ck_base.specs.Lines.{line_of, status_of, code_of}
-use Rattle.ck_base.specs.Numbered.{Interns, known, added}
+use Rattle.ck_base.specs.Numbered.{texts, AreNumbered, Interns, known, added}
+use Rattle.ck_base.specs.Words.{IsFit, AreJoined, Differ}
 
 -- the kind stands after the line
 syntax_of_line_2 : line_of (BadSpec 2 Syntax) ≡ codes "spec:2: syntax"
@@ -24,6 +26,19 @@ token_of_line_1 : line_of (BadToken 1 4) ≡ codes "source:1:4: bad token"
 unfolding digits
 token_of_line_1 = refl
 
+-- the lines that are constants
+usage_line : USAGE_LINE.now ≡ line_of Usage
+usage_line = refl
+
+read_line : READ_LINE.now ≡ codes "device: read fault"
+read_line = refl
+
+write_line : WRITE_LINE.now ≡ codes "device: write fault"
+write_line = refl
+
+memory_line : MEMORY_LINE.now ≡ codes "out of memory"
+memory_line = refl
+
 -- a source that is too long is the source's fault
 too_long_is_source : status_of SourceTooLong ≡ status.Source
 too_long_is_source = refl
@@ -32,9 +47,19 @@ too_long_is_source = refl
 spec_ends_with_2 : code_of (status_of (BadSpec 2 Syntax)) ≡ 2
 spec_ends_with_2 = refl
 
--- the numbers below 70 of which 1 and 64 are in the set
+-- the exit statuses aren't the places in the list of statuses
+device_ends_with_8 : code_of status.Device ≡ 8
+device_ends_with_8 = refl
+
+-- of the numbers below 70 those two are in the first set, and one in each of the others
 abbrev one_and_64 : BitSet
 one_and_64 = record { size = 70; words = 2 ∷ 1 ∷ [] }
+
+abbrev only_1 : BitSet
+only_1 = record { size = 70; words = 2 ∷ 0 ∷ [] }
+
+abbrev only_64 : BitSet
+only_64 = record { size = 70; words = 0 ∷ 1 ∷ [] }
 
 -- number 1 is bit 1 of the first word
 has_1 : Has one_and_64 1
@@ -48,9 +73,72 @@ has_64 = (lit< tt, λ none. cc)
 lacks_0 : Has one_and_64 0 → ⊥
 lacks_0 has = has.1 refl
 
--- number 70 isn't below the size
-lacks_70 : Has one_and_64 70 → ⊥
+-- a number that isn't below the size is not in the set, even where its bit is set
+lacks_70 : Has (record { size = 70; words = 2 ∷ 2 ^ 6 ∷ [] }) 70 → ⊥
 lacks_70 has = omega (arith, has.0)
+
+-- to be empty is to have no number, not to have no room for one
+zeros_are_empty : IsEmpty (record { size = 70; words = 0 ∷ 0 ∷ [] })
+zeros_are_empty i has = lacks (i / 64) (i % 64) has.1 where
+  lacks : (k j : ℕ) → IsBitSet (slice_index (0 ∷ 0 ∷ []) k) j → ⊥
+  lacks zero j bit = bit refl
+  lacks (suc zero) j bit = bit refl
+  lacks (suc (suc k)) j bit = bit refl
+
+-- a number that was in the set is in it once more, not out of it
+added_again : Adds one_and_64 one_and_64 (λ k. k ≡ 1)
+added_again = record {
+  size = refl;
+  only = λ k has. inl has;
+  kept = λ k has. has;
+  more = λ k same. subst (Has one_and_64) (sym same) has_1;
+}
+
+-- the old numbers stay
+old_stay : Adds only_1 only_64 (λ k. k ≡ 64) → ⊥
+old_stay adds = (adds.kept 1 (lit< tt, λ none. cc)).1 refl
+
+-- no others come
+no_others : Adds only_1 one_and_64 (λ k. k ≡ 1) → ⊥
+no_others adds = elim (adds.only 64 has_64) [ inl old ↦ old.1 refl | inr own ↦ cc ]
+
+-- a set grew where one number is new, whatever it lost
+grew_by_64 : Grew only_1 only_64
+grew_by_64 = (64, (lit< tt, λ none. cc), λ has. has.1 refl)
+
+-- a set that only lost numbers didn't grow
+did_not_grow : Grew one_and_64 only_1 → ⊥
+did_not_grow (i, has, lacks) = lacks (has.0, still (i / 64) (i % 64) has.1) where
+  still : (k j : ℕ) → IsBitSet (slice_index (2 ∷ 0 ∷ []) k) j → IsBitSet (slice_index (2 ∷ 1 ∷ []) k) j
+  still zero j bit = bit
+  still (suc zero) j bit = absurd (bit refl)
+  still (suc (suc k)) j bit = bit
+
+-- 64 numbers have one word, and one number more has the next
+one_word : (words : List ℕ) → IsFit 64 words → length words ≡ 1
+one_word words fit = fit.count
+
+two_words : (words : List ℕ) → IsFit 65 words → length words ≡ 2
+two_words words fit = fit.count
+
+-- no bit is set past the size
+no_bit_past : IsFit 1 (2 ∷ []) → ⊥
+no_bit_past fit = omega (arith, fit.inside 1 (λ none. cc))
+
+-- a join is neither a sum nor an exclusive or
+or_of_words : AreJoined (3 ∷ []) (5 ∷ []) (7 ∷ [])
+or_of_words = record { length_kept = refl; each = each } where
+  each : (k : ℕ) → slice_index (7 ∷ []) k ≡ bit_or (slice_index (3 ∷ []) k) (slice_index (5 ∷ []) k)
+  each zero = refl
+  each (suc k) = refl
+
+-- words differ where one of them does
+second_differs : Differ (1 ∷ 2 ∷ []) (1 ∷ 3 ∷ [])
+second_differs = (1, λ same. cc)
+
+-- vectors are told by their bytes, in their order
+bytes_in_order : (v w : Vec ℕ Global) → texts (v ∷ w ∷ []) ≡ v.items ∷ w.items ∷ []
+bytes_in_order v w = refl
 
 -- two names, with the numbers 0 and 1
 abbrev ab : List (List ℕ)
@@ -69,3 +157,16 @@ empty_is_absent (suc (suc k), within, is) = omega arith
 -- a new name goes to the end, and has the next number
 new_name : Interns ab (codes "a" ∷ codes "b" ∷ [] ∷ []) [] 2
 new_name = added empty_is_absent refl refl
+
+-- an old name isn't added a second time
+not_twice : Interns ab (ab ++ codes "b" ∷ []) (codes "b") 2 → ⊥
+not_twice (known same there) = omega (arith, ap length same)
+not_twice (added absent same next) = absent (1, lit< tt, refl)
+
+-- no list of names has one of them twice
+no_doubles : AreNumbered (codes "a" ∷ codes "a" ∷ []) → ⊥
+no_doubles numbered = omega (arith, numbered.apart 0 1 (codes "a") refl refl)
+
+-- 2 ^ 32 names are too many: how many there are wouldn't fit 32 bits
+too_many : (names : List (List ℕ)) → length names ≡ 2 ^ 32 → AreNumbered names → ⊥
+too_many names many numbered = omega (arith, numbered.few, many)

@@ -3,7 +3,6 @@ use std::test::Fail;
 
 #[test]
 fn a_refusal_has_its_line_and_its_status(rt: HostRuntime) -> Result<(), Fail> {
-    let bad_spec = |kind| Refusal::BadSpec { line: 2, kind };
     let cases = [
         (
             Refusal::Usage,
@@ -17,12 +16,6 @@ fn a_refusal_has_its_line_and_its_status(rt: HostRuntime) -> Result<(), Fail> {
             Status::Spec,
             2,
         ),
-        (bad_spec(Kind::Section), "spec:2: section", Status::Spec, 2),
-        (bad_spec(Kind::Syntax), "spec:2: syntax", Status::Spec, 2),
-        (bad_spec(Kind::Limit), "spec:2: limit", Status::Spec, 2),
-        (bad_spec(Kind::Twice), "spec:2: twice", Status::Spec, 2),
-        (bad_spec(Kind::Unknown), "spec:2: unknown", Status::Spec, 2),
-        (bad_spec(Kind::Typing), "spec:2: type", Status::Spec, 2),
         (
             Refusal::SourceTooLong,
             "source: longer than 4194304 bytes",
@@ -41,6 +34,24 @@ fn a_refusal_has_its_line_and_its_status(rt: HostRuntime) -> Result<(), Fail> {
         assert_eq!(rt; text.as_slice(), line.as_bytes(), "{refusal:?}");
         assert_eq!(rt; refusal.status(), status, "{refusal:?}");
         assert_eq!(rt; status.code(), code, "{refusal:?}");
+    }
+    Ok(())
+}
+
+#[test]
+fn each_kind_has_its_word(rt: HostRuntime) -> Result<(), Fail> {
+    for (kind, line) in [
+        (Kind::Section, "spec:2: section"),
+        (Kind::Syntax, "spec:2: syntax"),
+        (Kind::Limit, "spec:2: limit"),
+        (Kind::Twice, "spec:2: twice"),
+        (Kind::Unknown, "spec:2: unknown"),
+        (Kind::Typing, "spec:2: type"),
+    ] {
+        let refusal = Refusal::BadSpec { line: 2, kind };
+        let text = refusal.line(rt.alloc())?;
+        assert_eq!(rt; text.as_slice(), line.as_bytes(), "{kind:?}");
+        assert_eq!(rt; refusal.status(), Status::Spec, "{kind:?}");
     }
     Ok(())
 }

@@ -13,16 +13,19 @@ use Rattle.std.proofs.lemmas.Slice.Eq.{bytes_eq-Decides}
 use Rattle.ck_io.specs.Contents.{AddsFile}
 use Rattle.ck_io.specs.Folder.{File, has_name, place_in, bytes_in, with_file}
 
+-- the test for a name passes on that name, and on no other
 bytes_eq-same : (name : List ℕ) → bytes_eq name name ≡ true
 bytes_eq-same name = (bytes_eq-Decides name name).1 refl
 
 bytes_eq-other : (name other : List ℕ) → other ≢ name → bytes_eq name other ≡ false
 bytes_eq-other name other ne = false_from_ne_true _ (λ e. ne (sym ((bytes_eq-Decides name other).0 e)))
 
+-- a default that isn't there changes nothing
 option_or-None : {X : Type 0} (o : Option X) → option_or o None ≡ o
 option_or-None None = refl
 option_or-None (Some x) = refl
 
+-- two maps in a row are one
 option_map-twice : {X Y Z : Type 0} (f : X → Y) (g : Y → Z) (o : Option X) → option_map g (option_map f o) ≡ option_map (λ x. g (f x)) o
 option_map-twice f g None = refl
 option_map-twice f g (Some x) = refl

@@ -1,10 +1,14 @@
 -- What the outside tells of a file's bytes and of a sink's, and what a read or a write does to it.
-use Rattle.std.specs.Prelude.{◌≡◌, ◌≢◌, ℕ, ◌<◌, ◌≤◌, ◌↔◌, List, ◌++◌, length, take, drop, Option, Some, Result, IfOk, IfSome}
+use Rattle.std.specs.Prelude.{◌≡◌, ◌≢◌, ℕ, ◌-◌, ◌<◌, ◌≤◌, ◌↔◌, List, ◌++◌, length, min, take, drop, Option, Some, Result, IfOk, IfSome}
 
 -- the first n bytes of `into` are those of the file `told` from byte `at` on, and n is 0 exactly at or past its end
 pub record IsPart (told : List ℕ) (at n : ℕ) (into : List ℕ) : Type 0 where
   pub bytes : take n into ≡ take n (drop at told)
   pub end : (n ≡ 0) ↔ (length told ≤ at)
+
+-- how many bytes from byte `at` on there are for this room
+abbrev pub part_len : List ℕ → ℕ → ℕ → ℕ
+part_len told at room = min room (length told - at)
 
 -- a read from byte `at` on gives that part of the file, where the file is told
 abbrev pub ReadsAt : {E : Type 0} → Option (List ℕ) → ℕ → Result ℕ E → List ℕ → Type 0

@@ -4,3 +4,4 @@ pub mod Folder
 pub mod MemFiles
 pub mod MemSink
 pub mod NeverFails
+pub mod StdSink

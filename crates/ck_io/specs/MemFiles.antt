@@ -20,6 +20,15 @@ contents_of memory name = bytes_in memory.files name
 abbrev pub faults_of : FilesInMemory → List ℕ → ℕ
 faults_of memory name = unwrap_or (option_map (slice_index memory.counts) (place_in memory.files name)) memory.others
 
+-- the names share a count: they are one name, or both are missing
+abbrev pub ShareCount : FilesInMemory → List ℕ → List ℕ → Type 0
+ShareCount memory name other = place_in memory.files name ≡ place_in memory.files other
+
+-- a read of this name has failed: its count has one more, and each count that isn't its own is as before
+pub record CountsFault (old new : FilesInMemory) (name : List ℕ) : Type 0 where
+  pub counted : (other : List ℕ) → ShareCount old name other → faults_of new other ≡ one_more (faults_of old other)
+  pub others : (other : List ℕ) → (ShareCount old name other → ⊥) → faults_of new other ≡ faults_of old other
+
 -- the next read of this name fails: it is one of the calls that fail, or the file is missing
 abbrev pub IsFailing : FilesInMemory → List ℕ → Type 0
 IsFailing memory name = Contains memory.fails (one_more memory.calls) ⊎ (contents_of memory name ≡ None)

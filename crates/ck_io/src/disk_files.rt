@@ -1,5 +1,6 @@
-ghost use Rattle.std.specs.Prelude.{◌≡◌, None};
+ghost use Rattle.std.specs.Prelude.{◌≡◌, ◌<◌, ◌≤◌, length, IfOk, OnOk, OnErr, None};
 ghost use Rattle.std.specs.Io.{ReadsAtMost};
+ghost use Rattle.ck_io.specs.Faults.{one_more};
 
 use crate::files::{Failed, Files};
 use std::io::{Read, Seek, SeekFrom};
@@ -37,7 +38,15 @@ impl<'a, R: rt::Files> Files for DiskFiles<'a, R> {
 
     ghost faults = { λ files _. files };
 
-    fn read_at(&mut self, name: &str, at: u64, into: &mut [u8]) -> Result<usize, Failed> {
+    fn read_at(&mut self, name: &str, at: u64, into: &mut [u8]) -> Result<usize, Failed>
+        requires { 0 < length into.old }
+        ensures within { IfOk result (λ n. n ≤ length into.old) }
+        ensures later { self.old ≤ self.new }
+
+        // Beyond what all `Files` promise: a failed read counts one more.
+        ensures kept { OnOk result (self.new ≡ self.old) }
+        ensures counted { OnErr result (self.new ≡ one_more self.old) }
+    {
         match read_part(self.rt, name, at, into) {
             Ok(n) => Ok(n),
             Err(_) => {

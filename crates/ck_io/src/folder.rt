@@ -1,5 +1,5 @@
-ghost use Rattle.std.specs.Prelude.{◌≡◌, ◌<◌, ◌≤◌, [], length, OnOk, OnErr};
-ghost use Rattle.ck_io.specs.Contents.{IsPart};
+ghost use Rattle.std.specs.Prelude.{◌≡◌, ◌<◌, [], length, OnOk, OnErr};
+ghost use Rattle.ck_io.specs.Contents.{IsPart, part_len};
 ghost use Rattle.ck_io.specs.Folder.{place_in, bytes_at, with_file};
 
 use ck_base::NoMemory;
@@ -86,7 +86,7 @@ impl Folder {
 /// Copies the bytes from byte `at` on, as many as fit, to the front of `into`, and says how many.
 pub fn copy_part(bytes: &[u8], at: u64, into: &mut [u8]) -> usize
     requires { 0 < length into.old }
-    ensures within { result ≤ length into.old }
+    ensures count { result ≡ part_len bytes.now at (length into.old) }
     ensures part { IsPart bytes.now at result into.new }
 {
     let rest = &bytes[at.min(bytes.len() as u64) as usize..];

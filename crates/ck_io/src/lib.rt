@@ -9,7 +9,9 @@
 //! | files in memory | `src/mem_files.rt`, `src/never_fails.rt`; the specs of these names |
 //! | a sink in memory | `src/mem_sink.rt`; `specs/MemSink.antt` |
 //! | what these stand on: named files; calls that are to fail | `src/folder.rt`; `src/calls.rt` |
-//! | the disk, and the writers of std | `src/disk_files.rt`, `src/std_sink.rt` |
+//! | the disk, and the writers of std | `src/disk_files.rt`, `src/std_sink.rt`; `specs/StdSink.antt` |
+//! | parts in a row are the front; pieces in a row are one | `proofs/Front.antt`; `proofs/Pieces.antt` |
+//! | a file that was put is told | `proofs/AddedFile.antt` |
 #![tactic(auto)]
 
 mod calls;

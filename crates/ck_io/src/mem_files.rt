@@ -1,7 +1,7 @@
-ghost use Rattle.std.specs.Prelude.{◌≡◌, ◌<◌, ◌≤◌, ◌↔◌, ℕ, List, length, IfOk, IsErr, OnOk, OnErr, None};
-ghost use Rattle.ck_io.specs.Contents.{AddsFile, ReadsAt, SameContents};
-ghost use Rattle.ck_io.specs.Faults.{one_more, Rose, NoneFell};
-ghost use Rattle.ck_io.specs.MemFiles.{contents_of, faults_of, IsFailing};
+ghost use Rattle.std.specs.Prelude.{◌≡◌, ◌<◌, ◌≤◌, ◌↔◌, ℕ, List, length, IfOk, IfSome, IsErr, OnOk, OnErr, None};
+ghost use Rattle.ck_io.specs.Contents.{AddsFile, ReadsAt, SameContents, part_len};
+ghost use Rattle.ck_io.specs.Faults.{one_more, SameFaults, NoneFell};
+ghost use Rattle.ck_io.specs.MemFiles.{contents_of, faults_of, CountsFault, IsFailing};
 
 use crate::calls::Calls;
 use crate::files::{Failed, Files};
@@ -87,12 +87,15 @@ impl Files for MemFiles {
         ensures within { IfOk result (λ n. n ≤ length into.old) }
         ensures part { ReadsAt (contents_of self.old name.now) at result into.new }
         ensures same { SameContents (contents_of self.old) (contents_of self.new) }
-        ensures cause { OnErr result
-            (Rose (faults_of self.old name.now) (faults_of self.new name.now)) }
+        ensures kept { OnOk result (SameFaults (faults_of self.old) (faults_of self.new)) }
         ensures later { NoneFell (faults_of self.old) (faults_of self.new) }
 
-        // Beyond what all `Files` promise: which reads fail.
+        // Beyond what all `Files` promise: which reads fail, how much a read gives, and whose count
+        // has one more.
         ensures failing { IsErr result ↔ IsFailing self.old name.now }
+        ensures count { IfOk result (λ n. IfSome (contents_of self.old name.now)
+            (λ all. n ≡ part_len all at (length into.old))) }
+        ensures counted { OnErr result (CountsFault self.old self.new name.now) }
         ensures calls { self.new.calls ≡ one_more self.old.calls }
         ensures fails { self.new.fails ≡ self.old.fails }
     {

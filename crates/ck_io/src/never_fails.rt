@@ -1,5 +1,5 @@
-ghost use Rattle.std.specs.Prelude.{◌≡◌, ℕ, List, [], OnOk, OnErr, Some};
-ghost use Rattle.ck_io.specs.Contents.{AddsFile};
+ghost use Rattle.std.specs.Prelude.{◌≡◌, ◌<◌, ℕ, List, [], length, IfOk, IfSome, OnOk, OnErr, IsOk, Some};
+ghost use Rattle.ck_io.specs.Contents.{AddsFile, ReadsAt, part_len};
 ghost use Rattle.ck_io.specs.NeverFails.{contents_of};
 
 use crate::files::{Failed, Files};
@@ -50,7 +50,16 @@ impl Files for NeverFails {
     // A failed read would have to raise the count, so none fails.
     ghost faults = { λ _ _. 0 };
 
-    fn read_at(&mut self, name: &str, at: u64, into: &mut [u8]) -> Result<usize, Failed> {
+    fn read_at(&mut self, name: &str, at: u64, into: &mut [u8]) -> Result<usize, Failed>
+        requires { 0 < length into.old }
+        ensures part { ReadsAt (contents_of self.old name.now) at result into.new }
+
+        // Beyond what all `Files` promise: no read fails, and each gives as much as fits.
+        ensures never { IsOk result }
+        ensures count { IfOk result (λ n. IfSome (contents_of self.old name.now)
+            (λ all. n ≡ part_len all at (length into.old))) }
+        ensures same { self.new ≡ self.old }
+    {
         match self.folder.place_of(name) {
             Some(place) => Ok(copy_part(self.folder.bytes_at(place), at, into)),
             None => Ok(0),
