@@ -1,6 +1,6 @@
-ghost use Rattle.std.specs.Prelude.{ℕ, ◌<◌, ◌≤◌, List, length, Option, IfOk, OnOk, OnErr};
+ghost use Rattle.std.specs.Prelude.{ℕ, ◌<◌, ◌≤◌, List, length, Option, IfOk, OnErr};
 ghost use Rattle.ck_io.specs.Contents.{ReadsAt, SameContents};
-ghost use Rattle.ck_io.specs.Faults.{Rose, SameFaults, NoneFell};
+ghost use Rattle.ck_io.specs.Faults.{Rose, NoneFell};
 
 /// A read or a put failed. The object that it was asked of has counted it.
 #[derive(Clone, Copy, Debug, PartialEq, Eq)]
@@ -9,8 +9,7 @@ pub struct Failed;
 /// Named files that are read part by part.
 ///
 /// For each name `contents` tells its bytes, or nothing, and `faults` counts the reads that failed.
-/// A failed read raises the count of its name, and may raise the counts of other names too; no other
-/// read raises any.
+/// A count never falls, and a failed read may raise the counts of other names too.
 pub trait Files {
     ghost contents: { Self → List ℕ → Option (List ℕ) };
 
@@ -23,7 +22,6 @@ pub trait Files {
         ensures within { IfOk result (λ n. n ≤ length into.old) }
         ensures part { ReadsAt (contents self.old name.now) at result into.new }
         ensures same { SameContents (contents self.old) (contents self.new) }
-        ensures kept { OnOk result (SameFaults (faults self.old) (faults self.new)) }
         ensures cause { OnErr result (Rose (faults self.old name.now) (faults self.new name.now)) }
         ensures later { NoneFell (faults self.old) (faults self.new) };
 }

@@ -1,6 +1,6 @@
 ghost use Rattle.std.specs.Prelude.{◌≡◌, ◌≢◌, ◌+◌, ◌^◌, ◌<◌, ◌≤◌, length, take, IfOk, OnOk, IfSome};
 ghost use Rattle.ck_io.specs.Contents.{IsTold, IsLonger, FitsIn, SameContents};
-ghost use Rattle.ck_io.specs.Faults.{Rose, SameFaults, NoneFell};
+ghost use Rattle.ck_io.specs.Faults.{Rose, NoneFell};
 
 use crate::fault::LoadError;
 use crate::files::Files;
@@ -26,8 +26,6 @@ pub fn load<F: Files>(
         → IsLonger (F.contents files.old name.now) limit }
     ensures fault { result ≡ Err LoadError.ReadFault
         → Rose (F.faults files.old name.now) (F.faults files.new name.now) }
-    ensures kept { result ≢ Err LoadError.ReadFault
-        → SameFaults (F.faults files.old) (F.faults files.new) }
     ensures same { SameContents (F.contents files.old) (F.contents files.new) }
     ensures later { NoneFell (F.faults files.old) (F.faults files.new) }
 {
@@ -51,8 +49,6 @@ fn load_front<F: Files>(
     ensures never_too_long { result ≢ Err LoadError.TooLong }
     ensures fault { result ≡ Err LoadError.ReadFault
         → Rose (F.faults files.old name.now) (F.faults files.new name.now) }
-    ensures kept { result ≢ Err LoadError.ReadFault
-        → SameFaults (F.faults files.old) (F.faults files.new) }
     ensures same { SameContents (F.contents files.old) (F.contents files.new) }
     ensures later { NoneFell (F.faults files.old) (F.faults files.new) }
 {

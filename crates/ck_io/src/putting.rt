@@ -12,7 +12,6 @@ pub fn put_all<O: Sink>(sink: &mut O, bytes: &[u8]) -> Result<(), WriteFault>
     ensures front { IfErr result (λ fault.
         Appends (O.written sink.old) (O.written sink.new) (take fault.written bytes.now)) }
     ensures fewer { IfErr result (λ fault. fault.written < length bytes.now) }
-    ensures kept { OnOk result (O.faults sink.new ≡ O.faults sink.old) }
     ensures cause { OnErr result (Rose (O.faults sink.old) (O.faults sink.new)) }
     ensures later { O.faults sink.old ≤ O.faults sink.new }
 {

@@ -1,4 +1,4 @@
-ghost use Rattle.std.specs.Prelude.{◌≡◌, ℕ, ◌<◌, ◌≤◌, List, length, take, Option, IfOk, OnOk, OnErr};
+ghost use Rattle.std.specs.Prelude.{◌≡◌, ℕ, ◌<◌, ◌≤◌, List, length, take, Option, IfOk, OnErr};
 ghost use Rattle.ck_io.specs.Contents.{Appends};
 ghost use Rattle.ck_io.specs.Faults.{Rose};
 
@@ -6,8 +6,8 @@ use crate::files::Failed;
 
 /// What takes bytes, a piece at a time.
 ///
-/// `written` tells all bytes that it has taken, or nothing. `faults` counts the puts that failed:
-/// a failed put raises it, and no other does.
+/// `written` tells all bytes that it has taken, or nothing. `faults` counts the puts that failed,
+/// and never falls.
 pub trait Sink {
     ghost written: { Self → Option (List ℕ) };
 
@@ -21,7 +21,6 @@ pub trait Sink {
         ensures front { IfOk result (λ n.
             Appends (written self.old) (written self.new) (take n bytes.now)) }
         ensures none { OnErr result (written self.new ≡ written self.old) }
-        ensures kept { OnOk result (faults self.new ≡ faults self.old) }
         ensures cause { OnErr result (Rose (faults self.old) (faults self.new)) }
         ensures later { faults self.old ≤ faults self.new };
 }

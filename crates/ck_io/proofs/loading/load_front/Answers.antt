@@ -13,5 +13,5 @@ loop-buffer-preserved g c =
       within = search rules;
       front = rw c.in_ok-extend_from_slice.ensures.items (StartsWith-part _ _ _ _ _ at fits kept.front part);
       same = λ n. c.in_ok-n.ensures.same n ∙ kept.same n;
-      kept = λ n. c.in_ok-n.ensures.kept n ∙ kept.kept n;
+      later = λ n. omega (arith, kept.later n, c.in_ok-n.ensures.later n);
     }

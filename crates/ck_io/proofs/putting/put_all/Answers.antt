@@ -1,5 +1,5 @@
 -- One piece more keeps what holds while bytes are put.
-use Rattle.std.proofs.Common.{◌∙◌, arith}
+use Rattle.std.proofs.Common.{arith}
 use Rattle.ck_io.proofs.Pieces.{Appends-rest}
 use Rattle.ck_io.proofs.putting.put_all.Goals as goal
 
@@ -8,5 +8,5 @@ loop-written-preserved g c =
     record {
       within = omega (arith, c.in-Ok.ensures.within);
       front = Appends-rest _ _ _ _ _ _ c.loop-written.invariant.front c.in-Ok.ensures.front;
-      kept = c.in-Ok.ensures.kept ∙ c.loop-written.invariant.kept;
+      later = omega arith;
     }

@@ -1,5 +1,5 @@
--- While bytes are put, the first `written` of them are appended, and no put failed.
-use Rattle.std.proofs.Common.{◌≡◌, ◌-◌, ◌≤◌, length, take}
+-- While bytes are put, the first `written` of them are appended.
+use Rattle.std.proofs.Common.{◌-◌, ◌≤◌, length, take}
 use Rattle.ck_io.specs.Contents.{Appends}
 use Rattle.ck_io.proofs.putting.put_all.Given as goal
 
@@ -7,7 +7,7 @@ abbrev pub invariant-loop-written : goal.invariant-loop-written
 invariant-loop-written g l = record {
   within : l.written ≤ length l.bytes;
   front : Appends (g.O.Sink.written l.initial.sink) (g.O.Sink.written l.sink) (take l.written l.bytes);
-  kept : g.O.Sink.faults l.sink ≡ g.O.Sink.faults l.initial.sink;
+  later : g.O.Sink.faults l.initial.sink ≤ g.O.Sink.faults l.sink;
 }
 
 abbrev pub decreases-loop-written : goal.decreases-loop-written

@@ -8,7 +8,6 @@ read_at-tells c = record {
   within = c.ensures.within;
   part = c.ensures.part;
   same = c.ensures.same;
-  kept = c.ensures.kept;
   cause = on_err_weaker c.result (λ counts. omega (arith, counts.counted c.args.name.now refl)) c.ensures.counted;
   later = c.ensures.later;
 }
