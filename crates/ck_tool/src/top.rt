@@ -60,6 +60,8 @@ pub fn cocktail<F: Files, O: Sink, E: Sink>(
     ensures usage { UsageExactly (map string_bytes words.now.items)
         (record { old = E.written err.old; new = E.written err.new; before = E.faults err.old; now = E.faults err.new })
         result }
+    ensures same { SameContents (F.contents files.old) (F.contents files.new) }
+    ensures later { NoneFell (F.faults files.old) (F.faults files.new) }
 {
     let Some(command) = command_of(words) else {
         return tell(err, USAGE_LINE, Status::Usage);
@@ -76,6 +78,8 @@ fn answer_of<F: Files>(alloc: Global, command: Command, files: &mut F) -> Result
         (F.contents files.old command.entry.source.now)
         (ReadOfTokensFailed (F.contents files.old) command.entry.spec.now command.entry.source.now
         (F.faults files.old) (F.faults files.new))) }
+    ensures same { SameContents (F.contents files.old) (F.contents files.new) }
+    ensures later { NoneFell (F.faults files.old) (F.faults files.new) }
 {
     let spec = read(alloc, files, command.spec, SPEC_LIMIT, Refusal::SpecTooLong)?;
     let arena = Bump::new(alloc);
