@@ -8,7 +8,7 @@ use crate::place::Place;
 use crate::quote::push_quoted;
 use crate::stop::Stop;
 use ck_base::{NoMemory, Refusal};
-use rex_model::{Scan, ScanRules, scan_sets};
+use rex_model::{PositionSets, Scan, ScanRules, scan_with};
 use std::alloc::Global;
 
 /// The printed tokens of the source, a line each, with END at the end.
@@ -22,10 +22,11 @@ pub(crate) fn tokens_text(alloc: Global, rules: &ScanRules, source: &[u8]) -> Re
     ensures stop { IfErr result (IsStopOfScan rules.now source.now) }
 {
     let mut out = Vec::new(alloc);
+    let mut sets = PositionSets::new(alloc, rules)?;
     let mut place = Place::START;
     let mut state = 0;
     loop {
-        match scan_sets(alloc, rules, source, state, place.at)? {
+        match scan_with(&mut sets, rules, source, state, place.at) {
             Scan::Token {
                 rule,
                 to,

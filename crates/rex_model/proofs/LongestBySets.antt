@@ -4,7 +4,7 @@ use Rattle.std.proofs.lemmas.Bool.{cases_eq, cases_lt}
 use Rattle.ck_base.specs.BitSet.{BitSet, Has, IsEmpty, Adds}
 use Rattle.rex_model.specs.Language.{Re, Language}
 use Rattle.rex_model.specs.Longest.{IsLongest}
-use Rattle.rex_model.specs.Positions.{position_count, Moves, Ends}
+use Rattle.rex_model.specs.Positions.{Moves, Ends}
 use Rattle.rex_model.proofs.Comes.{Comes, position_before, position_after, ends_of_word, word_of_ends, none_longer}
 
 module _ (r : Re) (text : List ℕ) where
@@ -20,9 +20,9 @@ module _ (r : Re) (text : List ℕ) where
   IsFoundUpTo i (Some n) = IsLongestUpTo i n
 
   -- the first set has the positions that come next after i bytes, and the second is empty
-  pub record Searching (i : ℕ) (from to : BitSet) (found : Option ℕ) : Type 0 where
-    pub from_size : from.size ≡ position_count r
-    pub to_size : to.size ≡ position_count r
+  pub record Searching (size i : ℕ) (from to : BitSet) (found : Option ℕ) : Type 0 where
+    pub from_size : from.size ≡ size
+    pub to_size : to.size ≡ size
     pub places : (q : ℕ) → Has from q ↔ Comes r text i q
     pub cleared : IsEmpty to
     pub found_is : IsFoundUpTo i found
@@ -64,8 +64,8 @@ module _ (r : Re) (text : List ℕ) where
     ];
   }
 
-  module _ (i : ℕ) (from to mid next : BitSet) (found : Option ℕ) (ended : Bool)
-      (before : Searching i from to found) (within : i < length text)
+  module _ (size i : ℕ) (from to mid next : BitSet) (found : Option ℕ) (ended : Bool)
+      (before : Searching size i from to found) (within : i < length text)
       (moves : Adds to mid (Moves r 0 from (get_or text i 0))) (ends : IsTrue ended ↔ Ends r 0 from (get_or text i 0))
       (same_size : next.size ≡ from.size) (empty : IsEmpty next) where
     -- the moves lead to the positions that come next after one more byte
@@ -90,7 +90,7 @@ module _ (r : Re) (text : List ℕ) where
         let (p, comes, takes, last) = ends_of_word r text i within word in
         ends.1 (p, (before.places p).1 comes, takes, last)
 
-    searching_on : (now : Option ℕ) → IsFoundUpTo (i + 1) now → Searching (i + 1) mid next now
+    searching_on : (now : Option ℕ) → IsFoundUpTo (i + 1) now → Searching size (i + 1) mid next now
     searching_on now is = record {
       from_size = moves.size ∙ before.to_size;
       to_size = same_size ∙ before.from_size;
@@ -99,19 +99,19 @@ module _ (r : Re) (text : List ℕ) where
       found_is = is;
     }
 
-    pub search_found : ended ≡ true → Searching (i + 1) mid next (Some (i + 1))
+    pub search_found : ended ≡ true → Searching size (i + 1) mid next (Some (i + 1))
     search_found is = searching_on (Some (i + 1)) (up_to_here i (word_of_ended is))
 
-    pub search_goes_on : ended ≡ false → Searching (i + 1) mid next found
+    pub search_goes_on : ended ≡ false → Searching size (i + 1) mid next found
     search_goes_on is = searching_on found (up_to_more i found before.found_is (λ word. let also = ended_of_word word in cc))
 
   -- the search ends where no position comes next, and at the text's end
-  pub search_stopped : (i : ℕ) (from to : BitSet) (found : Option ℕ) → Searching i from to found → i ≤ length text
+  pub search_stopped : (size i : ℕ) (from to : BitSet) (found : Option ℕ) → Searching size i from to found → i ≤ length text
       → IsEmpty from → IsLongest r text found
-  search_stopped i from to found searching within empty = longest_of_all i found searching.found_is within
+  search_stopped size i from to found searching within empty = longest_of_all i found searching.found_is within
       (none_longer r text i (λ q comes. empty q ((searching.places q).1 comes)))
 
-  pub search_ended : (i : ℕ) (from to : BitSet) (found : Option ℕ) → Searching i from to found → i ≤ length text
+  pub search_ended : (size i : ℕ) (from to : BitSet) (found : Option ℕ) → Searching size i from to found → i ≤ length text
       → length text ≤ i → IsLongest r text found
-  search_ended i from to found searching within past = longest_of_all i found searching.found_is within
+  search_ended size i from to found searching within past = longest_of_all i found searching.found_is within
       (λ m more below word. omega arith)

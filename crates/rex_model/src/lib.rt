@@ -9,6 +9,7 @@
 //! | the line and the column of a place | `specs/Place.antt` |
 //! | whether the empty word is in the language, how many positions | `src/empty_word.rt`, `src/counts.rt` |
 //! | the positions that come next | `src/sets.rt`; `specs/Positions.antt` |
+//! | the two sets that a scan uses in turn | `src/position_sets.rt` |
 //! | the longest word of one rule | `src/longest.rt`; `specs/Longest.antt` |
 //! | the winner of all rules, and what a scan answers | `src/winner.rt`; `specs/Best.antt` |
 //! | rules that say the same | `specs/Alike.antt` |
@@ -19,6 +20,7 @@ mod counts;
 mod empty_word;
 mod laws;
 mod longest;
+mod position_sets;
 mod regex;
 mod rules;
 mod scan;
@@ -30,7 +32,8 @@ mod winner;
 pub use counts::positions;
 pub use empty_word::nullable;
 pub use laws::{alike_rules_scan_alike, at_most_one_run, at_most_one_winner};
+pub use position_sets::PositionSets;
 pub use regex::Regex;
 pub use rules::{ScanRule, ScanRules};
 pub use scan::Scan;
-pub use winner::scan_sets;
+pub use winner::{scan_sets, scan_with};

@@ -1,10 +1,13 @@
-ghost use Rattle.std.specs.Prelude.{◌≡◌, ◌+◌, ◌^◌, ◌<◌, length, IfOk, All, IsSome, None};
+ghost use Rattle.std.specs.Prelude.{◌≡◌, ◌+◌, ◌^◌, ◌<◌, ◌≤◌, length, IfOk, All, IsSome, None};
 ghost use Rattle.rex_model.specs.Best.{IsBest, longer_of};
 ghost use Rattle.rex_model.specs.Longest.{IsLongestOfRule};
+ghost use Rattle.rex_model.specs.Meaning.{meaning};
+ghost use Rattle.rex_model.specs.Positions.{position_count, HasRoomFor};
 ghost use Rattle.rex_model.specs.Run.{Scans};
 ghost use Rattle.rex_model.specs.Winner.{next_state};
 
 use crate::longest::longest;
+use crate::position_sets::PositionSets;
 use crate::rules::{ScanRule, ScanRules};
 use crate::scan::Scan;
 use ck_base::NoMemory;
@@ -31,10 +34,28 @@ pub fn scan_sets(
     requires plain { All (λ rule. rule.context ≡ None) rules.now.rules.items }
     ensures { IfOk result (λ scan. Scans rules.now.rules.items text.now state at scan) }
 {
+    let mut sets = PositionSets::new(alloc, rules)?;
+    Ok(scan_with(&mut sets, rules, text, state, at))
+}
+
+/// The same with sets that were made before, so that a scan takes no memory.
+pub fn scan_with(
+    sets: &mut PositionSets,
+    rules: &ScanRules,
+    text: &[u8],
+    state: u32,
+    at: usize,
+) -> Scan
+    requires few { length rules.now.rules.items < 2 ^ 32 }
+    requires plain { All (λ rule. rule.context ≡ None) rules.now.rules.items }
+    requires room { HasRoomFor sets.old rules.now.rules.items }
+    ensures scan { Scans rules.now.rules.items text.now state at result }
+    ensures same { sets.new ≡ sets.old }
+{
     if at >= text.len() {
-        return Ok(Scan::End);
+        return Scan::End;
     }
-    let scan = match winner(alloc, &rules.rules, state, &text[at..])? {
+    match winner(sets, &rules.rules, state, &text[at..]) {
         Some(best) => scan_of(
             &rules.rules[best.rule as usize],
             best.rule,
@@ -42,43 +63,41 @@ pub fn scan_sets(
             state,
         ),
         None => Scan::BadToken(at),
-    };
-    Ok(scan)
+    }
 }
 
 /// The winner at the beginning of `rest`; `None` where no rule has a candidate.
-fn winner(
-    alloc: Global,
-    rules: &[ScanRule],
-    state: u32,
-    rest: &[u8],
-) -> Result<Option<Best>, NoMemory>
+fn winner(sets: &mut PositionSets, rules: &[ScanRule], state: u32, rest: &[u8]) -> Option<Best>
     requires few { length rules.now < 2 ^ 32 }
     requires plain { All (λ rule. rule.context ≡ None) rules.now }
-    ensures { IfOk result (λ best. IsBest rules.now state rest.now best) }
+    requires room { HasRoomFor sets.old rules.now }
+    ensures best { IsBest rules.now state rest.now result }
+    ensures same { sets.new ≡ sets.old }
 {
     let mut best = None;
     for (i, rule) in rules.iter().enumerate() {
-        let found = longest_of_rule(alloc, rule, state, rest)?;
+        let found = longest_of_rule(sets, rule, state, rest);
         best = longer(best, i as u32, found);
     }
-    Ok(best)
+    best
 }
 
 /// How many bytes the longest text of the rule has; `None` where there is none, or the rule isn't
 /// active.
 fn longest_of_rule(
-    alloc: Global,
+    sets: &mut PositionSets,
     rule: &ScanRule,
     state: u32,
     rest: &[u8],
-) -> Result<Option<usize>, NoMemory>
-    ensures { IfOk result (λ found. IsLongestOfRule rule.now state rest.now found) }
+) -> Option<usize>
+    requires room { position_count (meaning rule.now.body.now) ≤ sets.old }
+    ensures longest { IsLongestOfRule rule.now state rest.now result }
+    ensures same { sets.new ≡ sets.old }
 {
     if !rule.states.has(state) {
-        return Ok(None);
+        return None;
     }
-    longest(alloc, rule.body, rest)
+    longest(rule.body, rest, &mut sets.from, &mut sets.to)
 }
 
 /// The longer of the best text so far and what the next rule found; of equals the first.
