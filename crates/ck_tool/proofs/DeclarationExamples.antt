@@ -1,16 +1,16 @@
 -- What lines and whole specifications declare, or which is their first fault, tried on cases that are worked by hand.
-use Rattle.std.proofs.Common.{◌≡◌, ℕ, List, [], ◌∷◌, ◌++◌, false, Some, None, codes, refl, sym, arith}
+use Rattle.std.proofs.Common.{◌≡◌, ℕ, List, [], ◌∷◌, ◌++◌, true, false, Some, None, codes, refl, sym, arith}
 use Rattle.std.specs.List.{list_any}
 use Rattle.ck_base.specs.declared.fault.Kind.TheVariants.{Section, Syntax}
-use Rattle.rex_model.specs.Language.{bytes, star, plus}
+use Rattle.rex_model.specs.Language.{Re, bytes, star, plus}
 use Rattle.rex_model.specs.Meaning.{sequence_of}
-use Rattle.ck_tool.specs.Declares.{Declares, Fault, of_sections, of_shape, no_lines, one_more}
-use Rattle.ck_tool.specs.LineTokens.{Span, Spans, single, range, Lexeme, word, string, sign, LineTokens, no_tokens, blank, a_token, a_word, a_text, a_sign}
-use Rattle.ck_tool.specs.RuleShape.{Declaration, no_pieces, once, plussed, a_string, is_unstarred, RuleShape, DeclaresOne, HasNoShape}
+use Rattle.ck_tool.specs.Declares.{Declares, Fault, of_sections, of_shape, no_lines, one_more, Met, no_more, known, added}
+use Rattle.ck_tool.specs.LineTokens.{Span, Spans, single, range, set_of_spans, IsClass, has_tokens, Lexeme, word, string, sign, LineTokens, no_tokens, blank, a_token, a_word, a_text, a_sign}
+use Rattle.ck_tool.specs.RuleShape.{starred, Declaration, Atom, Pieces, no_pieces, once, plussed, a_string, is_unstarred, RuleShape, DeclaresOne, HasNoShape}
 use Rattle.ck_tool.specs.Sections.{IsEnd, nothing, not_rex, no_end, after_end}
 use Rattle.ck_tool.proofs.OneFault.{one_fault}
 use Rattle.ck_tool.proofs.OneLexing.{one_lexing}
-use Rattle.ck_tool.proofs.OneShape.{same_ends}
+use Rattle.ck_tool.proofs.OneShape.{no_sign_first, same_ends}
 
 -- the line `RULE"a"+ :SKIP`
 abbrev pub skip_a : List ℕ
@@ -55,6 +55,31 @@ only_starred = refl
 backwards : (spans : List Span) → Spans (98 ∷ 45 ∷ 97 ∷ []) spans → ⊥
 backwards spans (single byte rest others is (single next after left dash listed)) = cc
 backwards spans (range low high rest others low_is high_is order listed) = omega (arith, order)
+
+-- `[^a]` doesn't list `^` and `a`: nothing that begins with `^` is a class
+no_caret : (spans : List Span) → IsClass (94 ∷ 97 ∷ []) spans → ⊥
+no_caret spans is = is.not_negated refl
+
+-- a range has the bytes between its ends, too
+between_ends : set_of_spans (record { low = 97; high = 99 } ∷ []) 98 ≡ true
+between_ends = refl
+
+-- a digit goes on with a word
+word_with_digit : LineTokens (codes "T1") (word (codes "T1") ∷ [])
+word_with_digit = a_token _ _ _ _ (a_word _ _ refl) no_tokens
+
+-- a line of a byte that no line may have counts as a line with tokens
+has_tokens_1 : has_tokens (1 ∷ []) ≡ true
+has_tokens_1 = refl
+
+-- the empty string is no piece
+no_empty_atom : (r : Re) → Atom (string []) r → ⊥
+no_empty_atom _ (a_string _ some) = omega arith
+
+-- nor has a piece two signs
+no_two_signs : (parts : List Re) → Pieces (string (codes "a") ∷ sign 42 ∷ sign 42 ∷ []) parts → ⊥
+no_two_signs _ (once _ _ r rs atom rest) = no_sign_first 42 (sign 42 ∷ []) rs rest
+no_two_signs _ (starred _ _ r rs atom rest) = no_sign_first 42 [] rs rest
 
 -- `RULE "a" : TOKEN SKIP` declares a token whose name is SKIP
 token_skip : RuleShape (word (codes "RULE") ∷ string (codes "a") ∷ sign 58 ∷ word (codes "TOKEN") ∷ word (codes "SKIP") ∷ [])
@@ -150,6 +175,13 @@ section_first = of_sections 3 (no_end (record { number = 1; text = codes "REX" }
 syntax_later : Fault (codes "REX" ++ (10 ∷ codes "x" ++ 10 ∷ [])) 2 Syntax → ⊥
 syntax_later fault = let both = one_fault _ 3 2 Section Syntax section_first fault in omega (arith, both.0)
 
+-- a line of END and another word isn't END
+end_and_more : (number : ℕ) → IsEnd (record { number = number; text = codes "END x" }) → ⊥
+end_and_more number is =
+    let tokens = a_token _ _ _ _ (a_word _ _ refl) (blank _ _ _ refl (a_token _ _ _ _ (a_word _ _ refl) no_tokens)) in
+    let same = one_lexing (codes "END x") (word (codes "END") ∷ word (codes "x") ∷ []) _ tokens is in
+    cc
+
 -- the second END is a line with tokens after END
 two_ends : Fault (codes "REX" ++ (10 ∷ codes "END" ++ (10 ∷ codes "END"))) 3 Section
 two_ends = of_sections 3 (after_end (record { number = 1; text = codes "REX" }) (record { number = 2; text = codes "END" })
@@ -177,3 +209,13 @@ first_of_two = of_shape (record { number = 3; text = codes "x" } ∷ record { nu
       has_none = has_no_shape_x;
       is_number = refl;
     })
+
+-- a declaration of the token A
+abbrev token_a : Declaration
+token_a = record { body = bytes (codes "a"); token = Some (codes "A") }
+
+-- two rules of one token number its name once
+one_number : Met [] (token_a ∷ token_a ∷ []) (codes "A" ∷ [])
+one_number =
+    added [] _ (codes "A") token_a _ refl (λ there. omega (arith, there.1))
+    (known (codes "A" ∷ []) _ (codes "A") token_a [] refl (0, omega arith, refl) (no_more (codes "A" ∷ [])))

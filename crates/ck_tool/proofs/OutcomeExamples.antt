@@ -1,5 +1,5 @@
 -- The answer of a run and the names that it reads, tried on cases that are worked by hand.
-use Rattle.std.proofs.Common.{◌≡◌, ℕ, List, [], ◌∷◌, ◌++◌, length, Option, Some, None, codes, refl, arith}
+use Rattle.std.proofs.Common.{◌≡◌, ℕ, List, [], ◌∷◌, ◌++◌, length, Option, Some, None, codes, refl, arith, take, length-take, ap}
 use Rattle.std.specs.Prelude.{slice_get}
 use Rattle.std.specs.Fmt.{digits}
 use Rattle.ck_base.specs.declared.fault.Kind.TheVariants.{Section}
@@ -8,7 +8,7 @@ use Rattle.ck_io.specs.Contents.{IsTold}
 use Rattle.rex_model.specs.Run.{Tokens}
 use Rattle.rex_model.specs.declared.rules.ScanRules.{ScanRules}
 use Rattle.ck_tool.specs.Declares.{no_rules, no_more}
-use Rattle.ck_tool.specs.Outcome.{output, refused, RefusesSpec, too_long, faulty, Accepts, bad_token, printed, by_spec, by_source, Wanted, wrong_words, tokens, reads_spec, reads_source, Reads}
+use Rattle.ck_tool.specs.Outcome.{Gained, GainedPart, ended, output, refused, RefusesSpec, too_long, faulty, Accepts, bad_token, printed, by_spec, by_source, Wanted, wrong_words, tokens, reads_spec, reads_source, Reads}
 use Rattle.ck_tool.specs.Words.{AreTokens, AreRight}
 use Rattle.ck_tool.proofs.DeclarationExamples.{no_rule, declares_nothing, empty_spec}
 use Rattle.ck_tool.proofs.OneFault.{no_fault}
@@ -89,3 +89,15 @@ at_the_limit spec size (too_long longer) = omega arith
 -- one with a byte more is, whatever stands in it
 past_the_limit : (spec : List ℕ) → length spec ≡ 1048577 → RefusesSpec spec refusal.SpecTooLong
 past_the_limit spec size = too_long (omega arith)
+
+-- a sink that took all bytes didn't take a part of them, whatever its count says
+whole_is_no_part : (count : ℕ) → GainedPart (record { old = Some []; new = Some (codes "ab"); before = 0; now = count }) (codes "ab") → ⊥
+whole_is_no_part count (written, fewer, took, rose) =
+    let all : codes "ab" ≡ take written (codes "ab") = cc in
+    omega (arith, ap length all, length-take written (codes "ab"))
+
+-- a line is told with its end
+told_with_end : (count : ℕ) → Gained (record { old = Some []; new = Some (codes "ab"); before = 0; now = count }) (ended (codes "ab")) → ⊥
+told_with_end count took =
+    let same : codes "ab" ≡ ended (codes "ab") = cc in
+    omega (arith, ap length same)
