@@ -120,79 +120,56 @@ fn tokens_are_printed_with_their_places(rt: HostRuntime) -> Result<(), Fail> {
 }
 
 #[test]
-fn the_first_refusal_is_told(rt: HostRuntime) -> Result<(), Fail> {
-    for (words, spec, source, err, status) in [
-        ("", SIGNS, "", USAGE, Status::Usage),
-        ("tokens s", SIGNS, "", USAGE, Status::Usage),
-        ("tokens s x y", SIGNS, "", USAGE, Status::Usage),
-        ("-x", SIGNS, "", USAGE, Status::Usage),
-        ("tokens none x", SIGNS, "", READ_FAULT, Status::Device),
-        ("tokens s x", "", "if", "spec:1: section\n", Status::Spec),
-        (
-            "tokens s x",
-            "REX\n",
-            "if",
-            "spec:2: section\n",
-            Status::Spec,
-        ),
-        (
-            "tokens s x",
-            NO_COLON,
-            "if",
-            "spec:2: syntax\n",
-            Status::Spec,
-        ),
-        // The source is read only after the specification was accepted.
-        (
-            "tokens s none",
-            NO_COLON,
-            "",
-            "spec:2: syntax\n",
-            Status::Spec,
-        ),
-        ("tokens s none", SIGNS, "", READ_FAULT, Status::Device),
-        (
-            "tokens s x",
-            SIGNS,
-            "if @",
-            "source:1:4: bad token\n",
-            Status::Source,
-        ),
-        (
-            "tokens s x",
-            LINES,
-            "ab\n cd;",
-            "source:2:4: bad token\n",
-            Status::Source,
-        ),
-        // The first of two bad places, which is the first byte.
-        (
-            "tokens s x",
-            LINES,
-            ";;",
-            "source:1:1: bad token\n",
-            Status::Source,
-        ),
+fn wrong_words_and_missing_files_are_told(rt: HostRuntime) -> Result<(), Fail> {
+    let files = [SIGNS.as_bytes(), b"".as_slice()];
+    for (words, err, status) in [
+        ("", USAGE, Status::Usage),
+        ("tokens s", USAGE, Status::Usage),
+        ("tokens s x y", USAGE, Status::Usage),
+        ("run s x", USAGE, Status::Usage),
+        ("-x", USAGE, Status::Usage),
+        ("tokens none x", READ_FAULT, Status::Device),
+        ("tokens s none", READ_FAULT, Status::Device),
+    ] {
+        let holds = ends_in(rt.alloc(), words, &files, "", err, status)?;
+        assert!(rt; holds, "{words}");
+    }
+    Ok(())
+}
+
+#[test]
+fn the_first_fault_of_a_specification_is_told(rt: HostRuntime) -> Result<(), Fail> {
+    for (spec, err) in [
+        ("", "spec:1: section\n"),
+        ("REX\n", "spec:2: section\n"),
+        (NO_COLON, "spec:2: syntax\n"),
         // The section fault stands behind the line without a shape.
-        (
-            "tokens s x",
-            "REX\nRULE \"if\" TOKEN IF\n",
-            "@",
-            "spec:3: section\n",
-            Status::Spec,
-        ),
+        ("REX\nRULE \"if\" TOKEN IF\n", "spec:3: section\n"),
         // The first of two lines without a shape.
-        (
-            "tokens s x",
-            "REX\n\nRULE\nRULE\nEND\n",
-            "@",
-            "spec:3: syntax\n",
-            Status::Spec,
-        ),
+        ("REX\n\nRULE\nRULE\nEND\n", "spec:3: syntax\n"),
+    ] {
+        // Neither a bad place of the source nor a missing source counts then.
+        let files = [spec.as_bytes(), b"@".as_slice()];
+        for words in ["tokens s x", "tokens s none"] {
+            let holds = ends_in(rt.alloc(), words, &files, "", err, Status::Spec)?;
+            assert!(rt; holds, "{words}: {spec:?}");
+        }
+    }
+    Ok(())
+}
+
+#[test]
+fn the_first_bad_place_is_told(rt: HostRuntime) -> Result<(), Fail> {
+    for (spec, source, err) in [
+        (SIGNS, "if @", "source:1:4: bad token\n"),
+        (SIGNS, "if @ @", "source:1:4: bad token\n"),
+        (LINES, ";;", "source:1:1: bad token\n"),
+        (LINES, "ab\n cd;", "source:2:4: bad token\n"),
+        ("REX\nEND\n", "\n", "source:1:1: bad token\n"),
     ] {
         let files = [spec.as_bytes(), source.as_bytes()];
-        let holds = ends_in(rt.alloc(), words, &files, "", err, status)?;
-        assert!(rt; holds, "{words}: {source:?} by {spec:?}");
+        let holds = ends_in(rt.alloc(), "tokens s x", &files, "", err, Status::Source)?;
+        assert!(rt; holds, "{source:?} by {spec:?}");
     }
     Ok(())
 }

@@ -27,52 +27,59 @@ fn counts_of(alloc: Global, spec: &[u8]) -> Option<(u32, u32)> {
 }
 
 #[test]
-fn faults_stand_at_their_lines(rt: HostRuntime) {
-    let section = Kind::Section;
-    let syntax = Kind::Syntax;
-    let cases: [(&[u8], u32, Kind); 36] = [
-        // Sections.
-        (b"", 1, section),
-        (b"\n\n", 3, section),
-        (b"REX", 2, section),
-        (b"REX\n", 2, section),
-        (b"REX\n\nRULE \"a\" : SKIP", 4, section),
-        (b" \nRULE \"a\" : SKIP\nEND\n", 2, section),
-        (b"REX X\nEND\n", 1, section),
-        (b"END\n", 1, section),
-        (b"# x\nREX\nEND\n", 1, section),
-        (b"REX\nEND\n\nEND\n", 4, section),
-        (b"REX\nEND\n# x\n", 3, section),
-        (b"REX\nEND\r", 3, section),
-        (b"REX\r", 1, section),
-        // Sections come before the rules.
-        (b"REX\nRULE\n", 3, section),
-        (b"REX\nRULE\nEND\n\x01", 4, section),
-        // Rules.
-        (b"REX\nREX\nEND\n", 2, syntax),
-        (b"REX\n\n\t\n# x\nRULE\nEND\n", 4, syntax),
-        (b"REX\nLALR\nEND\n", 2, syntax),
-        (b"REX\nEND X\nEND\n", 2, syntax),
-        (b"REX\nRULE \"a\"* : SKIP\nEND\n", 2, syntax),
-        (b"REX\nRULE \"\" : SKIP\nEND\n", 2, syntax),
-        (b"REX\nRULE \"a\"** : SKIP\nEND\n", 2, syntax),
-        (b"REX\nRULE \"a : SKIP\nEND\n", 2, syntax),
-        (b"REX\nRULE \"a\\\" : SKIP\nEND\n", 2, syntax),
-        (b"REX\nRULE \"\x01\" : SKIP\nEND\n", 2, syntax),
-        (b"REX\nRULE \"\x80\" : SKIP\nEND\n", 2, syntax),
-        (b"REX\nRULE [^a] : SKIP\nEND\n", 2, syntax),
-        (b"REX\nRULE [b-a] : SKIP\nEND\n", 2, syntax),
-        (b"REX\nRULE [a-] : SKIP\nEND\n", 2, syntax),
-        (b"REX\nRULE [] : SKIP\nEND\n", 2, syntax),
-        (b"REX\nRULE \"a\" : TOKEN END\nEND\n", 2, syntax),
-        (b"REX\nRULE \"a\" : TOKEN\nEND\n", 2, syntax),
-        (b"REX\nRULE : SKIP\nEND\n", 2, syntax),
-        (b"REX\nRULE \"a\" 1 : SKIP\nEND\n", 2, syntax),
-        (b"REX\nRULE \"a\" \"b\" TOKEN X\nEND\n", 2, syntax),
-        (b"REX\nRULE \"a\" : SKIP X\nEND\n", 2, syntax),
+fn section_faults_stand_at_their_lines(rt: HostRuntime) {
+    let cases: [(&[u8], u32); 15] = [
+        (b"", 1),
+        (b"\n\n", 3),
+        (b"REX", 2),
+        (b"REX\n", 2),
+        (b"REX\n\nRULE \"a\" : SKIP", 4),
+        (b" \nRULE \"a\" : SKIP\nEND\n", 2),
+        (b"REX X\nEND\n", 1),
+        (b"END\n", 1),
+        (b"# x\nREX\nEND\n", 1),
+        (b"REX\nEND\n\nEND\n", 4),
+        (b"REX\nEND\n# x\n", 3),
+        (b"REX\nEND\r", 3),
+        (b"REX\r", 1),
+        // They come before the rules.
+        (b"REX\nRULE\n", 3),
+        (b"REX\nRULE\nEND\n\x01", 4),
     ];
-    for (spec, line, kind) in cases {
-        assert_eq!(rt; fault_of(rt.alloc(), spec), Some((line, kind)), "{spec:?}");
+    for (spec, line) in cases {
+        let fault = Some((line, Kind::Section));
+        assert_eq!(rt; fault_of(rt.alloc(), spec), fault, "{spec:?}");
+    }
+}
+
+#[test]
+fn lines_without_a_shape_are_told(rt: HostRuntime) {
+    let cases: [(&[u8], u32); 21] = [
+        (b"REX\nREX\nEND\n", 2),
+        (b"REX\n\n\t\n# x\nRULE\nEND\n", 4),
+        (b"REX\nLALR\nEND\n", 2),
+        (b"REX\nEND X\nEND\n", 2),
+        (b"REX\nRULE \"a\"* : SKIP\nEND\n", 2),
+        (b"REX\nRULE \"\" : SKIP\nEND\n", 2),
+        (b"REX\nRULE \"a\"** : SKIP\nEND\n", 2),
+        (b"REX\nRULE \"a : SKIP\nEND\n", 2),
+        (b"REX\nRULE \"a\\\" : SKIP\nEND\n", 2),
+        (b"REX\nRULE \"\x01\" : SKIP\nEND\n", 2),
+        (b"REX\nRULE \"\x80\" : SKIP\nEND\n", 2),
+        (b"REX\nRULE [^a] : SKIP\nEND\n", 2),
+        (b"REX\nRULE [b-a] : SKIP\nEND\n", 2),
+        (b"REX\nRULE [a-] : SKIP\nEND\n", 2),
+        (b"REX\nRULE [] : SKIP\nEND\n", 2),
+        (b"REX\nRULE \"a\" : TOKEN END\nEND\n", 2),
+        (b"REX\nRULE \"a\" : TOKEN\nEND\n", 2),
+        (b"REX\nRULE : SKIP\nEND\n", 2),
+        (b"REX\nRULE \"a\" 1 : SKIP\nEND\n", 2),
+        (b"REX\nRULE \"a\" \"b\" TOKEN X\nEND\n", 2),
+        (b"REX\nRULE \"a\" : SKIP X\nEND\n", 2),
+    ];
+    for (spec, line) in cases {
+        let fault = Some((line, Kind::Syntax));
+        assert_eq!(rt; fault_of(rt.alloc(), spec), fault, "{spec:?}");
     }
 }
 
