@@ -12,6 +12,7 @@ mod LongestBySets
 pub mod Meanings
 mod MeaningsOfParts
 mod MovesOfParts
+mod OneAnswer
 pub mod OneRun
 pub mod OneWinner
 pub mod PositionsToWords
