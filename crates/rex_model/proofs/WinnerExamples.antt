@@ -3,17 +3,17 @@ use Rattle.std.proofs.Common.{◌≡◌, ℕ, zero, suc, Bool, ◌+◌, ◌-◌,
 use Rattle.std.specs.Prelude.{codes}
 use Rattle.std.specs.Borrow.{Bor}
 use Rattle.ck_base.specs.BitSet.{Has}
-use Rattle.rex_model.specs.Language.{bytes, class, sequence, plus, IsIn, Repeats, no_more, one_more, Language}
+use Rattle.rex_model.specs.Language.{none, bytes, class, sequence, alternative, star, plus, optional, IsIn, Repeats, no_more, one_more, Language}
 use Rattle.rex_model.specs.Meaning.{meaning, set_of}
 use Rattle.rex_model.specs.Run.{Tokens, end, bad, token, skip, finished, bad_at}
 use Rattle.rex_model.specs.Winner.{InContext, Candidate, Winner, HasNoCandidate}
 use Rattle.rex_model.specs.declared.regex.Regex.{Regex}
 use Rattle.rex_model.specs.declared.regex.Regex.TheVariants as regex
 use Rattle.rex_model.specs.declared.rules.ScanRule.{ScanRule}
-use Rattle.rex_model.proofs.Meanings.{meaning-Bytes, meaning-Class, meaning-Plus, meaning-Seq}
+use Rattle.rex_model.proofs.Meanings.{meaning-Bytes, meaning-Class, meaning-Seq, meaning-Alt, meaning-Star, meaning-Plus, meaning-Opt}
 
 -- a reference to a value
-abbrev at : {X : Type 0} → X → Bor X
+abbrev pub at : {X : Type 0} → X → Bor X
 at x = record { ref_ptr = (0, 0); now = x }
 
 -- the class of the letters a to z: bits 97 to 122
@@ -21,23 +21,23 @@ abbrev a_to_z : List ℕ
 a_to_z = 0 ∷ (2 ^ 59 - 2 ^ 33) ∷ 0 ∷ 0 ∷ []
 
 -- the same as a set of bytes
-abbrev letters : ℕ → Bool
+abbrev pub letters : ℕ → Bool
 letters = set_of a_to_z
 
 -- the expression of a name: one letter or more
-abbrev name : Regex
+abbrev pub name : Regex
 name = regex.Plus (at (regex.Class a_to_z))
 
 -- the expression of a keyword
-abbrev keyword : Regex
+abbrev pub keyword : Regex
 keyword = regex.Bytes (at (codes "if"))
 
 -- a name is one or more letters
-name_meaning : meaning name ≡ plus (class letters)
+pub name_meaning : meaning name ≡ plus (class letters)
 name_meaning = meaning-Plus (at (regex.Class a_to_z)) ∙ ap plus (meaning-Class a_to_z)
 
 -- the keyword is "if"
-keyword_meaning : meaning keyword ≡ bytes (codes "if")
+pub keyword_meaning : meaning keyword ≡ bytes (codes "if")
 keyword_meaning = meaning-Bytes (at (codes "if"))
 
 -- two keywords, one after the other
@@ -45,8 +45,18 @@ two_keywords : meaning (regex.Seq (at (keyword ∷ keyword ∷ [])))
     ≡ sequence (bytes (codes "if")) (sequence (bytes (codes "if")) (bytes []))
 two_keywords = meaning-Seq (at (keyword ∷ keyword ∷ [])) ∙ rw keyword_meaning
 
+-- a name as an option, the keyword as the only alternative, and any number of names
+forms : (meaning (regex.Opt (at name)) ≡ optional (plus (class letters)))
+    × (meaning (regex.Alt (at (keyword ∷ []))) ≡ alternative (bytes (codes "if")) none)
+    × (meaning (regex.Star (at name)) ≡ star (plus (class letters)))
+forms = (
+  meaning-Opt (at name) ∙ ap optional name_meaning,
+  meaning-Alt (at (keyword ∷ [])) ∙ rw keyword_meaning,
+  meaning-Star (at name) ∙ ap star name_meaning,
+)
+
 -- a rule without context that is active in state 0
-abbrev rule_of : Regex → ℕ → ScanRule
+abbrev pub rule_of : Regex → ℕ → ScanRule
 rule_of body number = record {
   states = record { size = 1; words = 1 ∷ [] };
   body = at body;
@@ -56,7 +66,7 @@ rule_of body number = record {
 }
 
 -- such a rule has a candidate where the text begins with one of its words
-candidate_of : (rules : List ScanRule) (rest : List ℕ) (i number n : ℕ) (body : Regex)
+unfoldable pub candidate_of : (rules : List ScanRule) (rest : List ℕ) (i number n : ℕ) (body : Regex)
     → slice_get rules i ≡ Some (rule_of body number) → 0 < n → n ≤ length rest → Language (meaning body) (take n rest)
     → Candidate rules 0 rest i n n
 candidate_of rules rest i number n body is_rule some within word = record {
@@ -71,7 +81,7 @@ candidate_of rules rest i number n body is_rule some within word = record {
 }
 
 -- of a rule without context the candidate's text is all of it, and a word of the body
-rule_text : (rules : List ScanRule) (state : ℕ) (rest : List ℕ) (i n m : ℕ) (rule : ScanRule)
+pub rule_text : (rules : List ScanRule) (state : ℕ) (rest : List ℕ) (i n m : ℕ) (rule : ScanRule)
     → rule.context ≡ None → slice_get rules i ≡ Some rule → Candidate rules state rest i n m
     → (n ≡ m) × Language (meaning rule.body.now) (take n rest)
 rule_text rules state rest i n m rule plain is_rule c =
@@ -84,11 +94,11 @@ rule_text rules state rest i n m rule plain is_rule c =
     (omega (arith, ap length context, length-take (m - n) (drop n rest), length-drop n rest), word)
 
 -- names, and then a keyword
-abbrev names_first : List ScanRule
+abbrev pub names_first : List ScanRule
 names_first = rule_of name 0 ∷ rule_of keyword 1 ∷ []
 
 -- the keyword, and then names
-abbrev keyword_first : List ScanRule
+abbrev pub keyword_first : List ScanRule
 keyword_first = rule_of keyword 1 ∷ rule_of name 0 ∷ []
 
 -- one of the letters before a word of letters
@@ -101,7 +111,7 @@ i_is_in : IsIn letters 105
 i_is_in = (omega arith, refl)
 
 -- f is a letter
-f_is_in : IsIn letters 102
+pub f_is_in : IsIn letters 102
 f_is_in = (omega arith, refl)
 
 -- y is a letter
@@ -109,7 +119,7 @@ y_is_in : IsIn letters 121
 y_is_in = (omega arith, refl)
 
 -- "if" is a name
-if_is_a_name : Language (meaning name) (codes "if")
+pub if_is_a_name : Language (meaning name) (codes "if")
 if_is_a_name = rw name_meaning (codes "i", codes "f", refl, (105, refl, i_is_in), letter 102 [] f_is_in no_more)
 
 -- so is "iffy"
@@ -123,7 +133,7 @@ iffy_is_a_name = rw name_meaning (
 )
 
 -- "if" is a keyword
-if_is_a_keyword : Language (meaning keyword) (codes "if")
+pub if_is_a_keyword : Language (meaning keyword) (codes "if")
 if_is_a_keyword = rw keyword_meaning refl
 
 -- at "iffy" the keyword is a candidate
@@ -168,7 +178,7 @@ keyword_first_wins = record {
 }
 
 -- at "iffy" the name wins wherever it is written
-longer_wins : Winner keyword_first 0 (codes "iffy") 1 4 4
+pub longer_wins : Winner keyword_first 0 (codes "iffy") 1 4 4
 longer_wins = record {
   candidate = candidate_of keyword_first (codes "iffy") 1 0 4 name refl (omega arith) (omega arith) iffy_is_a_name;
   longest = λ j k l c. c.within;
@@ -185,7 +195,7 @@ longer_wins = record {
     not_the_keyword (suc j) k c = omega arith
 
 -- a name that stands before "if"
-abbrev name_before_if : ScanRule
+abbrev pub name_before_if : ScanRule
 name_before_if = record (rule_of name 0) { context = Some (at keyword) }
 
 -- at "xif" its text is "x", and "if" is the context; "xif" without context is no candidate
@@ -228,11 +238,11 @@ bad_without_rules : Tokens [] (codes "if") 0 0 [] (bad_at 0)
 bad_without_rules = bad 0 0 (omega arith) (λ i n m c. let e = c.is_rule in cc)
 
 -- the keyword, skipped, and once only: state 1 comes after it, in which it isn't active
-abbrev skipped_once : ScanRule
+abbrev pub skipped_once : ScanRule
 skipped_once = record (rule_of keyword 1) { token = None; next = Some 1 }
 
 -- at "ifif" its text is "if"
-skipped_wins : Winner (skipped_once ∷ []) 0 (codes "ifif") 0 2 2
+unfoldable pub skipped_wins : Winner (skipped_once ∷ []) 0 (codes "ifif") 0 2 2
 skipped_wins = record {
   candidate = record {
     rule = skipped_once;

@@ -1,5 +1,5 @@
-/// What a scan at a place in a state finds. Rules and states are numbered from 0, `to` is the place
-/// after the text, in bytes from the text's beginning.
+/// What a scan at a place in a state finds. Rules and states are numbered from 0. `to` is the place
+/// after the winner's text, in bytes from the text's beginning, and `state` the state afterwards.
 #[derive(Clone, Copy, Debug, PartialEq, Eq)]
 pub enum Scan {
     /// The winner gives a token.
