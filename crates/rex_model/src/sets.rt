@@ -90,7 +90,7 @@ pub(crate) fn step(r: &Regex, k: u32, from: &Bits, byte: u8, to: &mut Bits) -> b
     }
 }
 
-/// The same for a string.
+/// `step` for a string.
 fn step_string(string: &[u8], k: u32, from: &Bits, byte: u8, to: &mut Bits) -> bool
     requires room { k + length string.now ≤ to.old.size }
     requires fits { to.old.size < 2 ^ 32 }
@@ -121,7 +121,7 @@ fn is_in(words: &[u64; 4], byte: u8) -> bool
     words[(byte / 64) as usize] & (1 << (byte % 64)) != 0
 }
 
-/// The same for parts that stand one after the other.
+/// `step` for parts that stand one after the other.
 #[cycle(step)]
 fn step_sequence(parts: &[Regex], k: u32, from: &Bits, byte: u8, to: &mut Bits) -> bool
     requires room { k + position_count (sequence_of (map meaning parts.now)) ≤ to.old.size }
@@ -138,7 +138,7 @@ fn step_sequence(parts: &[Regex], k: u32, from: &Bits, byte: u8, to: &mut Bits) 
     entered
 }
 
-/// The same for one of these parts, where `entered` says whether those before it may end with the
+/// `step` for one of these parts, where `entered` says whether those before it may end with the
 /// byte. The answer says whether those up to this one may.
 #[cycle(step)]
 fn step_part(part: &Regex, k: u32, from: &Bits, byte: u8, entered: bool, to: &mut Bits) -> bool
@@ -154,7 +154,7 @@ fn step_part(part: &Regex, k: u32, from: &Bits, byte: u8, entered: bool, to: &mu
     ended || entered && has_empty_word(part)
 }
 
-/// The same for alternatives.
+/// `step` for alternatives.
 #[cycle(step)]
 fn step_alternatives(parts: &[Regex], k: u32, from: &Bits, byte: u8, to: &mut Bits) -> bool
     requires room { k + position_count (alternative_of (map meaning parts.now)) ≤ to.old.size }
@@ -171,7 +171,7 @@ fn step_alternatives(parts: &[Regex], k: u32, from: &Bits, byte: u8, to: &mut Bi
     ended
 }
 
-/// The same for a part that may come again.
+/// `step` for a part that may come again.
 #[cycle(step)]
 fn step_round(part: &Regex, k: u32, from: &Bits, byte: u8, to: &mut Bits) -> bool
     requires room { k + position_count (meaning part.now) ≤ to.old.size }
