@@ -79,6 +79,10 @@ pub record Sunk : Type 0 where
   pub before : ℕ
   pub now : ℕ
 
+-- the same, from what it told and counted before and after
+abbrev pub sunk : Option (List ℕ) → Option (List ℕ) → ℕ → ℕ → Sunk
+sunk old new before now = record { old = old; new = new; before = before; now = now }
+
 -- nothing was written
 abbrev pub Kept : Sunk → Type 0
 Kept sunk = sunk.new ≡ sunk.old

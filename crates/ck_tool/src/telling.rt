@@ -1,7 +1,7 @@
 ghost use Rattle.std.specs.Prelude.{◌≤◌, ◌<◌, length, take, IfErr, OnOk, OnErr};
 ghost use Rattle.ck_io.specs.Contents.{Appends};
 ghost use Rattle.ck_io.specs.Faults.{Rose};
-ghost use Rattle.ck_tool.specs.Outcome.{ended};
+ghost use Rattle.ck_tool.specs.Outcome.{ended, sunk};
 ghost use Rattle.ck_tool.specs.Tells.{Tells};
 
 use ck_base::Status;
@@ -27,7 +27,7 @@ fn put_line<S: Sink>(sink: &mut S, line: &[u8]) -> Result<(), WriteFault>
 /// Puts the line, and says how the run ends: in `status`, where the sink took it.
 pub(crate) fn tell<S: Sink>(sink: &mut S, line: &[u8], status: Status) -> Status
     ensures { Tells line.now status
-        (record { old = S.written sink.old; new = S.written sink.new; before = S.faults sink.old; now = S.faults sink.new }) result }
+        (sunk (S.written sink.old) (S.written sink.new) (S.faults sink.old) (S.faults sink.new)) result }
 {
     match put_line(sink, line) {
         Ok(()) => status,

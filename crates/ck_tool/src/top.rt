@@ -1,7 +1,7 @@
 ghost use Rattle.std.specs.Prelude.{◌≡◌, ◌^◌, ◌<◌, ◌≤◌, ◌⊎◌, ℕ, List, length, map, string_bytes, IfOk, IfErr};
 ghost use Rattle.ck_io.specs.Contents.{IsLonger, IsTold, SameContents};
 ghost use Rattle.ck_io.specs.Faults.{Rose, NoneFell};
-ghost use Rattle.ck_tool.specs.Outcome.{Answers, AreTold, NoneFailed, Outcome, Ran, ReadFailed, TokensOf, UsageExactly, Wanted, WantedMemory, output as output_of};
+ghost use Rattle.ck_tool.specs.Outcome.{Answers, AreTold, NoneFailed, Outcome, Ran, ReadFailed, TokensOf, UsageExactly, Wanted, WantedMemory, output as output_of, sunk};
 ghost use Rattle.ck_tool.specs.Stops.{IsFound, IsStopOfRead, IsStopOfTokens, ReadOfTokensFailed};
 ghost use Rattle.ck_tool.specs.Tells.{Explains};
 ghost use Rattle.ck_tool.specs.Words.{AreRight};
@@ -40,25 +40,25 @@ pub fn cocktail<F: Files, O: Sink, E: Sink>(
     ensures run { Ran (map string_bytes words.now.items)
         (Wanted (F.contents files.old) (map string_bytes words.now.items))
         (ReadFailed (F.contents files.old) (map string_bytes words.now.items) (F.faults files.old) (F.faults files.new))
-        (record { old = O.written out.old; new = O.written out.new; before = O.faults out.old; now = O.faults out.new })
-        (record { old = E.written err.old; new = E.written err.new; before = E.faults err.old; now = E.faults err.new })
+        (sunk (O.written out.old) (O.written out.new) (O.faults out.old) (O.faults out.new))
+        (sunk (E.written err.old) (E.written err.new) (E.faults err.old) (E.faults err.new))
         result }
     ensures exactly { AreTold (F.contents files.old) (map string_bytes words.now.items)
         → NoneFailed
         (ReadFailed (F.contents files.old) (map string_bytes words.now.items) (F.faults files.old) (F.faults files.new))
-        (record { old = O.written out.old; new = O.written out.new; before = O.faults out.old; now = O.faults out.new })
-        (record { old = E.written err.old; new = E.written err.new; before = E.faults err.old; now = E.faults err.new })
+        (sunk (O.written out.old) (O.written out.new) (O.faults out.old) (O.faults out.new))
+        (sunk (E.written err.old) (E.written err.new) (E.faults err.old) (E.faults err.new))
         → (answer : Outcome) → Wanted (F.contents files.old) (map string_bytes words.now.items) answer
         → Answers answer
-        (record { old = O.written out.old; new = O.written out.new; before = O.faults out.old; now = O.faults out.new })
-        (record { old = E.written err.old; new = E.written err.new; before = E.faults err.old; now = E.faults err.new })
+        (sunk (O.written out.old) (O.written out.new) (O.faults out.old) (O.faults out.new))
+        (sunk (E.written err.old) (E.written err.new) (E.faults err.old) (E.faults err.new))
         result
         ⊎ WantedMemory (map string_bytes words.now.items)
-        (record { old = O.written out.old; new = O.written out.new; before = O.faults out.old; now = O.faults out.new })
-        (record { old = E.written err.old; new = E.written err.new; before = E.faults err.old; now = E.faults err.new })
+        (sunk (O.written out.old) (O.written out.new) (O.faults out.old) (O.faults out.new))
+        (sunk (E.written err.old) (E.written err.new) (E.faults err.old) (E.faults err.new))
         result }
     ensures usage { UsageExactly (map string_bytes words.now.items)
-        (record { old = E.written err.old; new = E.written err.new; before = E.faults err.old; now = E.faults err.new })
+        (sunk (E.written err.old) (E.written err.new) (E.faults err.old) (E.faults err.new))
         result }
     ensures same { SameContents (F.contents files.old) (F.contents files.new) }
     ensures later { NoneFell (F.faults files.old) (F.faults files.new) }
@@ -127,8 +127,8 @@ fn finish<O: Sink, E: Sink>(
 ) -> Status
     ensures { (words : List (List ℕ)) → AreRight words
         → Ran words (IsFound found) (found ≡ Err Stop.ReadFault)
-        (record { old = O.written out.old; new = O.written out.new; before = O.faults out.old; now = O.faults out.new })
-        (record { old = E.written err.old; new = E.written err.new; before = E.faults err.old; now = E.faults err.new })
+        (sunk (O.written out.old) (O.written out.new) (O.faults out.old) (O.faults out.new))
+        (sunk (E.written err.old) (E.written err.new) (E.faults err.old) (E.faults err.new))
         result }
 {
     match found {
@@ -143,7 +143,7 @@ fn finish<O: Sink, E: Sink>(
 /// Puts the line that says why there is no output.
 fn explain<E: Sink>(alloc: Global, stop: Stop, err: &mut E) -> Status
     ensures { Explains stop
-        (record { old = E.written err.old; new = E.written err.new; before = E.faults err.old; now = E.faults err.new })
+        (sunk (E.written err.old) (E.written err.new) (E.faults err.old) (E.faults err.new))
         result }
 {
     match stop {
