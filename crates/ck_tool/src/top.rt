@@ -37,29 +37,20 @@ pub fn cocktail<F: Files, O: Sink, E: Sink>(
     out: &mut O,
     err: &mut E,
 ) -> Status
-    ensures run { Ran (map string_bytes words.now.items)
-        (Wanted (F.contents files.old) (map string_bytes words.now.items))
-        (ReadFailed (F.contents files.old) (map string_bytes words.now.items) (F.faults files.old) (F.faults files.new))
-        (sunk (O.written out.old) (O.written out.new) (O.faults out.old) (O.faults out.new))
-        (sunk (E.written err.old) (E.written err.new) (E.faults err.old) (E.faults err.new))
-        result }
-    ensures exactly { AreTold (F.contents files.old) (map string_bytes words.now.items)
-        → NoneFailed
-        (ReadFailed (F.contents files.old) (map string_bytes words.now.items) (F.faults files.old) (F.faults files.new))
-        (sunk (O.written out.old) (O.written out.new) (O.faults out.old) (O.faults out.new))
-        (sunk (E.written err.old) (E.written err.new) (E.faults err.old) (E.faults err.new))
-        → (answer : Outcome) → Wanted (F.contents files.old) (map string_bytes words.now.items) answer
-        → Answers answer
-        (sunk (O.written out.old) (O.written out.new) (O.faults out.old) (O.faults out.new))
-        (sunk (E.written err.old) (E.written err.new) (E.faults err.old) (E.faults err.new))
-        result
-        ⊎ WantedMemory (map string_bytes words.now.items)
-        (sunk (O.written out.old) (O.written out.new) (O.faults out.old) (O.faults out.new))
-        (sunk (E.written err.old) (E.written err.new) (E.faults err.old) (E.faults err.new))
-        result }
-    ensures usage { UsageExactly (map string_bytes words.now.items)
-        (sunk (E.written err.old) (E.written err.new) (E.faults err.old) (E.faults err.new))
-        result }
+    ensures run { let texts = map string_bytes words.now.items in
+        let to_out = sunk (O.written out.old) (O.written out.new) (O.faults out.old) (O.faults out.new) in
+        let to_err = sunk (E.written err.old) (E.written err.new) (E.faults err.old) (E.faults err.new) in
+        let read_failed = ReadFailed (F.contents files.old) texts (F.faults files.old) (F.faults files.new) in
+        Ran texts (Wanted (F.contents files.old) texts) read_failed to_out to_err result }
+    ensures exactly { let texts = map string_bytes words.now.items in
+        let to_out = sunk (O.written out.old) (O.written out.new) (O.faults out.old) (O.faults out.new) in
+        let to_err = sunk (E.written err.old) (E.written err.new) (E.faults err.old) (E.faults err.new) in
+        let read_failed = ReadFailed (F.contents files.old) texts (F.faults files.old) (F.faults files.new) in
+        AreTold (F.contents files.old) texts → NoneFailed read_failed to_out to_err
+        → (answer : Outcome) → Wanted (F.contents files.old) texts answer
+        → Answers answer to_out to_err result ⊎ WantedMemory texts to_out to_err result }
+    ensures usage { let to_err = sunk (E.written err.old) (E.written err.new) (E.faults err.old) (E.faults err.new) in
+        UsageExactly (map string_bytes words.now.items) to_err result }
     ensures same { SameContents (F.contents files.old) (F.contents files.new) }
     ensures later { NoneFell (F.faults files.old) (F.faults files.new) }
 {
