@@ -1,14 +1,18 @@
 -- The answer of a run and the names that it reads, tried on cases that are worked by hand.
-use Rattle.std.proofs.Common.{◌≡◌, ℕ, List, [], ◌∷◌, ◌++◌, length, Option, Some, None, codes, refl, arith, take, length-take, ap}
+use Rattle.std.proofs.Common.{◌≡◌, ◌⊎◌, inl, inr, ℕ, List, [], ◌∷◌, ◌++◌, length, Option, Some, None, codes, refl, arith, take, length-take, ap}
 use Rattle.std.specs.Prelude.{slice_get}
 use Rattle.std.specs.Fmt.{digits}
 use Rattle.ck_base.specs.declared.fault.Kind.TheVariants.{Section}
+use Rattle.ck_base.specs.Lines.{status_of}
+use Rattle.ck_base.specs.declared.refusal.Refusal.{Refusal}
 use Rattle.ck_base.specs.declared.refusal.Refusal.TheVariants as refusal
+use Rattle.ck_base.specs.declared.status.Status.{Status}
+use Rattle.ck_base.specs.declared.status.Status.TheVariants as status
 use Rattle.ck_io.specs.Contents.{IsTold}
 use Rattle.rex_model.specs.Run.{Tokens}
 use Rattle.rex_model.specs.declared.rules.ScanRules.{ScanRules}
 use Rattle.ck_tool.specs.Declares.{no_rules, no_more}
-use Rattle.ck_tool.specs.Outcome.{Gained, GainedPart, ended, output, refused, RefusesSpec, too_long, faulty, Accepts, bad_token, printed, by_spec, by_source, Wanted, wrong_words, tokens, reads_spec, reads_source, Reads}
+use Rattle.ck_tool.specs.Outcome.{Outcome, Sunk, Kept, Failed, Gained, GainedPart, Answers, UsageExactly, Ran, done, refusing, memory, reading, writing, refusal_cut, memory_cut, ended, output, refused, RefusesSpec, too_long, faulty, Accepts, bad_token, printed, by_spec, by_source, Wanted, wrong_words, tokens, reads_spec, reads_source, Reads}
 use Rattle.ck_tool.specs.Words.{AreTokens, AreRight}
 use Rattle.ck_tool.proofs.DeclarationExamples.{no_rule, declares_nothing, empty_spec}
 use Rattle.ck_tool.proofs.OneFault.{no_fault}
@@ -101,3 +105,55 @@ told_with_end : (count : ℕ) → Gained (record { old = Some []; new = Some (co
 told_with_end count took =
     let same : codes "ab" ≡ ended (codes "ab") = cc in
     omega (arith, ap length same)
+
+-- a fault from before the run is none of the run
+old_fault : (told : Option (List ℕ)) → Failed (record { old = told; new = told; before = 3; now = 3 }) → ⊥
+old_fault told rose = omega arith
+
+-- bytes that were given with a line beside them aren't the answer
+bytes_and_line : (out : Sunk) → Answers (output []) out (record { old = Some []; new = Some (codes "a"); before = 0; now = 0 }) status.Done → ⊥
+bytes_and_line out (is, gained, kept) = cc
+
+-- wrong words never end in want of memory
+wrong_words_want_none : (words : List (List ℕ)) (err : Sunk) → UsageExactly words err status.Memory → (AreRight words → ⊥) → ⊥
+wrong_words_want_none words err exactly wrong = neither (exactly.always wrong)
+  where
+    neither : (status.Memory ≡ status.Usage) ⊎ ((status.Memory ≡ status.Device) × Failed err) → ⊥
+    neither (inl is) = cc
+    neither (inr (is, failed)) = cc
+
+-- no refusal has the status of a run that is done, or of want of memory
+refusal_is_not_done : (r : Refusal) → status_of r ≡ status.Done → ⊥
+refusal_is_not_done refusal.Usage is = cc
+refusal_is_not_done refusal.SpecTooLong is = cc
+refusal_is_not_done (refusal.BadSpec line kind) is = cc
+refusal_is_not_done refusal.SourceTooLong is = cc
+refusal_is_not_done (refusal.BadToken line col) is = cc
+
+refusal_is_not_memory : (r : Refusal) → status_of r ≡ status.Memory → ⊥
+refusal_is_not_memory refusal.Usage is = cc
+refusal_is_not_memory refusal.SpecTooLong is = cc
+refusal_is_not_memory (refusal.BadSpec line kind) is = cc
+refusal_is_not_memory refusal.SourceTooLong is = cc
+refusal_is_not_memory (refusal.BadToken line col) is = cc
+
+module _ (words : List (List ℕ)) (wants : Outcome → Type 0) (failed : Type 0) (out err : Sunk) where
+  -- a run that is done has told no line
+  done_tells_nothing : (ends : Status) → Ran words wants failed out err ends → ends ≡ status.Done → Kept err
+  done_tells_nothing _ (done bytes wanted gained kept) is = kept
+  done_tells_nothing _ (refusing r wanted kept gained) is = absurd (refusal_is_not_done r is)
+  done_tells_nothing _ (memory right kept gained) is = cc
+  done_tells_nothing _ (reading rose kept line) is = cc
+  done_tells_nothing _ (writing bytes wanted part line) is = cc
+  done_tells_nothing _ (refusal_cut r wanted kept part) is = cc
+  done_tells_nothing _ (memory_cut right kept part) is = cc
+
+  -- want of memory follows no byte of output
+  memory_writes_nothing : (ends : Status) → Ran words wants failed out err ends → ends ≡ status.Memory → Kept out
+  memory_writes_nothing _ (done bytes wanted gained kept) is = cc
+  memory_writes_nothing _ (refusing r wanted kept gained) is = absurd (refusal_is_not_memory r is)
+  memory_writes_nothing _ (memory right kept gained) is = kept
+  memory_writes_nothing _ (reading rose kept line) is = cc
+  memory_writes_nothing _ (writing bytes wanted part line) is = cc
+  memory_writes_nothing _ (refusal_cut r wanted kept part) is = cc
+  memory_writes_nothing _ (memory_cut right kept part) is = cc
