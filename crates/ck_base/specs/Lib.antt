@@ -1,4 +1,5 @@
 pub mod BitSet
+pub mod Found
 pub mod Lines
 pub mod Numbered
 pub mod Words
