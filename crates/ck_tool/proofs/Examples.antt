@@ -4,11 +4,12 @@ use Rattle.std.specs.Fmt.{digits}
 use Rattle.ck_base.specs.BitSet.{Has}
 use Rattle.rex_model.specs.Language.{bytes}
 use Rattle.rex_model.specs.Meaning.{meaning}
-use Rattle.rex_model.specs.Run.{Tokens, finished}
+use Rattle.rex_model.specs.Run.{Tokens as TokensOf, finished}
 use Rattle.rex_model.specs.Winner.{Candidate, Winner}
 use Rattle.rex_model.specs.declared.rules.ScanRule.{ScanRule}
 use Rattle.ck_tool.specs.TokenText.{quoted, token_line, tokens_text}
-use Rattle.ck_tool.specs.Words.{AreRight}
+use Rattle.ck_tool.specs.Words.{AreRight, of_stage}
+use Rattle.ck_tool.specs.declared.stage.Stage.TheVariants.{Tokens}
 
 -- `a"\` and the bytes 0x01 and 0xff are printed `"a\"\\\x01\xff"`
 quoted_bytes : quoted (97 ∷ 34 ∷ 92 ∷ 1 ∷ 255 ∷ [])
@@ -32,28 +33,30 @@ only_end = refl
 
 -- the words `tokens s x` are right
 right_words : AreRight (codes "tokens" ∷ codes "s" ∷ codes "x" ∷ [])
-right_words = (codes "s", codes "x", record { words_are = refl; is_spec = λ e. cc; is_source = λ e. cc })
+right_words = of_stage Tokens (codes "s") (codes "x") (record { words_are = refl; is_spec = λ e. cc; is_source = λ e. cc })
 
 -- `tokens -s x` aren't: no name begins with `-`
 dash : AreRight (codes "tokens" ∷ codes "-s" ∷ codes "x" ∷ []) → ⊥
-dash (spec, source, are) =
+dash (of_stage stage spec source are) =
+    let words = are.words_are in
     let is : spec ≡ codes "-s" = cc in
     let name = rw is at are.is_spec in
     name refl
 
 -- nor are `tokens s`: one name is missing
 one_name : AreRight (codes "tokens" ∷ codes "s" ∷ []) → ⊥
-one_name (spec, source, are) = cc
+one_name (of_stage stage spec source are) = let words = are.words_are in cc
 
 -- nor are `tokens`, the empty word and `x`: no name is empty
 empty_name : AreRight (codes "tokens" ∷ [] ∷ codes "x" ∷ []) → ⊥
-empty_name (spec, source, are) =
+empty_name (of_stage stage spec source are) =
+    let words = are.words_are in
     let is : spec ≡ [] = cc in
     rw is at are.is_spec
 
 -- nor are `run s x`: this is another command
 other_command : AreRight (codes "run" ∷ codes "s" ∷ codes "x" ∷ []) → ⊥
-other_command (spec, source, are) = cc
+other_command (of_stage Tokens spec source are) = let words = are.words_are in cc
 
 -- "if" is a candidate of a rule for "if"
 if_candidate : (keyword other : ScanRule) → Has keyword.states 0 → meaning keyword.body.now ≡ bytes (codes "if") → keyword.context ≡ None
@@ -71,7 +74,7 @@ if_candidate keyword other active body context = record {
 
 -- whatever the second rule is, the text "if" is one token of the first
 one_token : (keyword other : ScanRule) → Has keyword.states 0 → meaning keyword.body.now ≡ bytes (codes "if") → keyword.context ≡ None
-    → keyword.token ≡ Some 7 → Tokens (keyword ∷ other ∷ []) (codes "if") 0 0 (record { number = 7; from = 0; to = 2 } ∷ []) finished
+    → keyword.token ≡ Some 7 → TokensOf (keyword ∷ other ∷ []) (codes "if") 0 0 (record { number = 7; from = 0; to = 2 } ∷ []) finished
 unfolding if_candidate
 one_token keyword other active body context number =
     let won : Winner (keyword ∷ other ∷ []) 0 (codes "if") 0 2 2 = record {
@@ -80,4 +83,4 @@ one_token keyword other active body context number =
       first = λ j k candidate. omega arith;
       greatest = λ k candidate. candidate.fits;
     } in
-    Tokens.token 0 0 0 2 2 7 [] finished won number (Tokens.end _ 2 refl)
+    TokensOf.token 0 0 0 2 2 7 [] finished won number (TokensOf.end _ 2 refl)

@@ -1,4 +1,4 @@
-mod AnswerOfTokens
+mod AnswerOfRun
 mod ClassSpans
 mod DeclarationExamples
 mod Ends

@@ -2,7 +2,7 @@
 use Rattle.std.proofs.Common.{◌≡◌, ℕ, List, [], length, Some, IfSome, slice_get, slice_range, refl}
 use Rattle.std.proofs.lemmas.Option.{get_or_from_slice_get}
 use Rattle.rex_model.specs.declared.rules.ScanRule.{ScanRule}
-use Rattle.ck_tool.specs.Places.{IsPlace, printed_place, printed_token, printed_end}
+use Rattle.ck_tool.specs.within.Places.{IsPlace, printed_place, printed_token, printed_end}
 use Rattle.ck_tool.specs.TokenText.{place_text, token_line, end_line}
 use Rattle.ck_tool.specs.declared.place.Place.{Place}
 

@@ -7,9 +7,9 @@ use Rattle.ck_base.specs.declared.fault.SpecFault.TheVariants.{Bad, NoMemory}
 use Rattle.ck_tool.specs.NumberedLines.{NumberedLine, lines_of, past_lines}
 use Rattle.ck_tool.specs.RuleShape.{Declaration, DeclaresOne}
 use Rattle.ck_tool.specs.Declares.{RuleLines, no_lines, one_more as one_more_line, of_sections, of_shape, IsRule, IsTokenNumber, AreRules, no_rules, more as one_more_rule, no_more}
-use Rattle.ck_tool.specs.RulesOfLines.{DeclaresRule, AreRulesOf, IsFaultOf, IsFaultOfLine, IsFaultOfLines, IsFaultOfSections}
+use Rattle.ck_tool.specs.within.RulesOfLines.{DeclaresRule, AreRulesOf, IsFaultOf, IsFaultOfLine, IsFaultOfLines, IsFaultOfSections}
 use Rattle.ck_tool.specs.Sections.{AreSections}
-use Rattle.ck_tool.specs.Seen.{line_of}
+use Rattle.ck_tool.specs.within.Seen.{line_of}
 use Rattle.ck_tool.specs.declared.line.SpecLine.{SpecLine}
 use Rattle.ck_tool.proofs.SectionsOfLines.{no_line, line_in_place, at_place}
 use Rattle.ck_tool.proofs.TokensMet.{Keeps, met_keeps, met_few, met_more}

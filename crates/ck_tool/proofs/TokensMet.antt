@@ -6,8 +6,8 @@ use Rattle.std.proofs.lemmas.Option.{slice_get_within, get_or_from_slice_get}
 use Rattle.ck_base.specs.Numbered.{Interns, known, added}
 use Rattle.ck_tool.specs.RuleShape.{Declaration}
 use Rattle.ck_tool.specs.Declares.{IsTokenNumber, Met, no_more, skips, known as known_name, added as added_name}
-use Rattle.ck_tool.specs.Shapes.{name_of}
-use Rattle.ck_tool.specs.RulesOfLines.{IsNumber}
+use Rattle.ck_tool.specs.within.Shapes.{name_of}
+use Rattle.ck_tool.specs.within.RulesOfLines.{IsNumber}
 
 -- the old names keep their numbers
 abbrev pub Keeps : List (List ℕ) → List (List ℕ) → Type 0

@@ -1,8 +1,8 @@
 ghost use Rattle.std.specs.Prelude.{◌≡◌, ◌+◌, ◌^◌, ◌<◌, ◌≤◌, ◌↔◌, ℕ, [], length, map, IfOk, IfErr};
 ghost use Rattle.ck_base.specs.BitSet.{Has};
 ghost use Rattle.ck_tool.specs.Declares.{DeclaresRules};
-ghost use Rattle.ck_tool.specs.RulesOfLines.{DeclaresRule, AreRulesOf, IsFaultOf, IsFaultOfLine, IsFaultOfLines, IsNumber};
-ghost use Rattle.ck_tool.specs.Seen.{line_of};
+ghost use Rattle.ck_tool.specs.within.RulesOfLines.{DeclaresRule, AreRulesOf, IsFaultOf, IsFaultOfLine, IsFaultOfLines, IsNumber};
+ghost use Rattle.ck_tool.specs.within.Seen.{line_of};
 
 use crate::line::{SpecLine, spec_lines};
 use crate::section::rule_lines;

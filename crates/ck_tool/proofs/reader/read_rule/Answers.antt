@@ -1,7 +1,7 @@
 -- The line has the tokens of a rule, and its token's name is numbered.
 use Rattle.std.proofs.Common.{map, refl}
-use Rattle.ck_tool.specs.Seen.{seen}
-use Rattle.ck_tool.specs.Shapes.{declaration_of}
+use Rattle.ck_tool.specs.within.Seen.{seen}
+use Rattle.ck_tool.specs.within.Shapes.{declaration_of}
 use Rattle.ck_tool.proofs.OneShape.{no_rule_of_line}
 use Rattle.ck_tool.proofs.TokensMet.{met_once, is_number}
 use Rattle.ck_tool.proofs.reader.read_rule.Goals as goal

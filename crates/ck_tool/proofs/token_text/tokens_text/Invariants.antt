@@ -1,7 +1,7 @@
 -- The walk over the source so far, by sets that keep their room.
 use Rattle.std.proofs.Common.{◌-◌, length}
 use Rattle.rex_model.specs.Positions.{HasRoomFor}
-use Rattle.ck_tool.specs.Places.{IsPlace}
+use Rattle.ck_tool.specs.within.Places.{IsPlace}
 use Rattle.ck_tool.proofs.Walk.{Walked}
 use Rattle.ck_tool.proofs.token_text.tokens_text.Given as goal
 

@@ -6,7 +6,7 @@ use Rattle.rex_model.specs.Language.{Re, star, plus}
 use Rattle.rex_model.specs.Meaning.{meaning, sequence_of}
 use Rattle.ck_tool.specs.LineTokens.{Lexeme, word, sign}
 use Rattle.ck_tool.specs.RuleShape.{Atom, Pieces, Declaration, RuleShape, is_unstarred, ending}
-use Rattle.ck_tool.specs.Seen.{seen}
+use Rattle.ck_tool.specs.within.Seen.{seen}
 use Rattle.ck_tool.specs.declared.shape.DeclaredRule.{DeclaredRule}
 use Rattle.ck_tool.specs.declared.token.Token.{Token}
 use Rattle.ck_tool.specs.declared.shape.Repeat.{Repeat}
