@@ -1,28 +1,25 @@
 -- The best rule of a list, found rule by rule, where no rule has a context.
-use Rattle.std.proofs.Common.{◌≡◌, ℕ, ◌+◌, ◌-◌, ◌<◌, ◌≤◌, Bool, true, false, nat_lt, List, [], length, take, length-take, length-drop, All, Option, Some, None, Bor, inl, inr, refl, sym, ap, ◌∙◌, subst, arith}
+use Rattle.std.proofs.Common.{◌≡◌, ℕ, ◌+◌, ◌-◌, ◌<◌, ◌≤◌, Bool, IsTrue, true, false, nat_lt, List, [], length, take, length-take, length-drop, All, Option, Some, None, inl, inr, refl, sym, ap, ◌∙◌, subst, arith}
 use Rattle.std.specs.Prelude.{slice_get, if◌then◌else◌}
 use Rattle.std.proofs.lemmas.Bool.{cases_eq, ltb-true, ltb-false}
 use Rattle.std.proofs.lemmas.Option.{same_Some, slice_get_within, get_or_from_slice_get}
-use Rattle.ck_base.specs.BitSet.{Has}
-use Rattle.rex_model.specs.Language.{Language}
-use Rattle.rex_model.specs.Meaning.{meaning}
+use Rattle.rex_model.specs.Language.{Re, Language}
 use Rattle.rex_model.specs.Best.{IsBest, longer_of}
 use Rattle.rex_model.specs.Longest.{IsLongestOfRule}
+use Rattle.rex_model.specs.Rules.{Rule}
 use Rattle.rex_model.specs.Winner.{InContext, Candidate}
-use Rattle.rex_model.specs.declared.regex.Regex.{Regex}
-use Rattle.rex_model.specs.declared.rules.ScanRule.{ScanRule}
 use Rattle.rex_model.specs.declared.winner.Best.{Best}
 
 -- without a context nothing stands behind the text
-nothing_behind : (context : Option (Bor Regex)) (word : List ℕ) → context ≡ None → InContext context word → word ≡ []
+nothing_behind : (context : Option Re) (word : List ℕ) → context ≡ None → InContext context word → word ≡ []
 nothing_behind None word none empty = empty
 nothing_behind (Some context) word none has = (cc)
 
-pub nothing_needed : (context : Option (Bor Regex)) (word : List ℕ) → context ≡ None → word ≡ [] → InContext context word
+pub nothing_needed : (context : Option Re) (word : List ℕ) → context ≡ None → word ≡ [] → InContext context word
 nothing_needed None word none empty = empty
 nothing_needed (Some context) word none empty = (cc)
 
-module _ (rules : List ScanRule) (state : ℕ) (rest : List ℕ) where
+module _ (rules : List Rule) (state : ℕ) (rest : List ℕ) where
   -- the best of the first n rules
   pub record IsBestOf (n : ℕ) (best : Best) : Type 0 where
     pub below : best.rule < n
@@ -34,8 +31,8 @@ module _ (rules : List ScanRule) (state : ℕ) (rest : List ℕ) where
   IsBestBefore n None = (j k l : ℕ) → j < n → Candidate rules state rest j k l → ⊥
   IsBestBefore n (Some best) = IsBestOf n best
 
-module _ (rules : List ScanRule) (state : ℕ) (rest : List ℕ) (plain : All (λ rule. rule.context ≡ None) rules) where
-  no_context : (i : ℕ) (rule : ScanRule) → slice_get rules i ≡ Some rule → rule.context ≡ None
+module _ (rules : List Rule) (state : ℕ) (rest : List ℕ) (plain : All (λ rule. rule.context ≡ None) rules) where
+  no_context : (i : ℕ) (rule : Rule) → slice_get rules i ≡ Some rule → rule.context ≡ None
   no_context i rule is_rule =
       rw (get_or_from_slice_get rules i rule rule is_rule) at (plain i rule (slice_get_within rules i rule is_rule))
 
@@ -48,17 +45,17 @@ module _ (rules : List ScanRule) (state : ℕ) (rest : List ℕ) (plain : All (�
       let within = candidate.within in
       omega (arith, simp (length-take, length-drop) at (ap length behind))
 
-  module _ (i : ℕ) (rule : ScanRule) (is_rule : slice_get rules i ≡ Some rule) where
+  module _ (i : ℕ) (rule : Rule) (is_rule : slice_get rules i ≡ Some rule) where
     -- a candidate of the rule is a word of its body that the text begins with
     word_of_candidate : (n m : ℕ) → Candidate rules state rest i n m
-        → Has rule.states state × (0 < n) × (m ≤ length rest) × (m ≡ n) × Language (meaning rule.body.now) (take n rest)
+        → IsTrue (rule.active state) × (0 < n) × (m ≤ length rest) × (m ≡ n) × Language rule.body (take n rest)
     word_of_candidate n m candidate =
         let same : candidate.rule ≡ rule = same_Some candidate.rule rule (sym candidate.is_rule ∙ is_rule) in (
-          subst (λ (r : ScanRule). Has r.states state) same candidate.active,
+          subst (λ (r : Rule). IsTrue (r.active state)) same candidate.active,
           candidate.some,
           candidate.within,
           text_alone i n m candidate,
-          subst (λ (r : ScanRule). Language (meaning r.body.now) (take n rest)) same candidate.body,
+          subst (λ (r : Rule). Language r.body (take n rest)) same candidate.body,
         )
 
     -- the longest text of the rule is a candidate, and no candidate of the rule is longer

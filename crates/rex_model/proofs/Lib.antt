@@ -1,7 +1,5 @@
 mod Adding
 pub mod After
-mod AlikeExamples
-pub mod AlikeRules
 mod BestOfRules
 pub mod Comes
 mod ContextExamples
@@ -9,8 +7,10 @@ pub mod EmptyWord
 mod Examples
 mod FirstOfParts
 mod LongestBySets
+mod MeaningExamples
 pub mod Meanings
 mod MeaningsOfParts
+pub mod MeantRules
 mod MovesOfParts
 mod OneAnswer
 pub mod OneRun

@@ -9,7 +9,7 @@ use Rattle.rex_model.specs.Longest.{HasNoWord, IsLongest, IsLongestOfRule}
 use Rattle.rex_model.specs.Positions.{has_empty, Takes, First, Last, Follow, Moves, Ends}
 use Rattle.rex_model.specs.declared.winner.Best.{Best}
 use Rattle.rex_model.proofs.Examples.{only_a, only_b, a_then_bs, a_is_in, twice_ab, a_then_b, never_a}
-use Rattle.rex_model.proofs.WinnerExamples.{keyword, rule_of, keyword_first, longer_wins}
+use Rattle.rex_model.proofs.WinnerExamples.{keyword, plain_rule, keyword_first, longer_wins}
 
 -- a sequence has the empty word where both parts have it, alternatives where one has
 empties : (has_empty (sequence (star (class only_a)) (class only_b)) ≡ false)
@@ -84,8 +84,8 @@ empty_is_none (suc zero) some within (inr is) = (let two = ap length is in omega
 empty_is_none (suc (suc m)) some within word = omega arith
 
 -- a rule that isn't active has no text, whatever its words are
-inactive_has_none : IsLongestOfRule (rule_of keyword 1) 1 (codes "if") None
-inactive_has_none = λ active m some within word. omega arith
+inactive_has_none : IsLongestOfRule (plain_rule keyword 1) 1 (codes "if") None
+inactive_has_none = λ active m some within word. cc
 
 -- a rule and the length of its text
 abbrev best : ℕ → ℕ → Best

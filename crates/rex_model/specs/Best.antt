@@ -1,11 +1,11 @@
 -- The winner at a place where no rule has a context.
 use Rattle.std.specs.Prelude.{ℕ, nat_lt, if◌then◌else◌, List, Option, Some, None}
+use Rattle.rex_model.specs.Rules.{Rule}
 use Rattle.rex_model.specs.Winner.{Winner, HasNoCandidate}
-use Rattle.rex_model.specs.declared.rules.ScanRule.{ScanRule}
 use Rattle.rex_model.specs.declared.winner.Best.{Best}
 
 -- the rule and its text win; None where no rule has a candidate
-abbrev pub IsBest : List ScanRule → ℕ → List ℕ → Option Best → Type 0
+abbrev pub IsBest : List Rule → ℕ → List ℕ → Option Best → Type 0
 IsBest rules state rest None = HasNoCandidate rules state rest
 IsBest rules state rest (Some best) = Winner rules state rest best.rule best.len best.len
 

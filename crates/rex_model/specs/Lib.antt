@@ -1,9 +1,10 @@
-pub mod Alike
 pub mod Best
 pub mod Language
 pub mod Longest
 pub mod Meaning
 pub mod Place
 pub mod Positions
+pub mod RuleMeaning
+pub mod Rules
 pub mod Run
 pub mod Winner

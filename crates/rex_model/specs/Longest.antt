@@ -1,9 +1,7 @@
 -- The longest word that a text begins with, and the longest text of a rule.
-use Rattle.std.specs.Prelude.{ℕ, ◌<◌, ◌≤◌, List, length, take, Option, Some, None}
-use Rattle.ck_base.specs.BitSet.{Has}
+use Rattle.std.specs.Prelude.{ℕ, ◌<◌, ◌≤◌, IsTrue, List, length, take, Option, Some, None}
 use Rattle.rex_model.specs.Language.{Re, Language}
-use Rattle.rex_model.specs.Meaning.{meaning}
-use Rattle.rex_model.specs.declared.rules.ScanRule.{ScanRule}
+use Rattle.rex_model.specs.Rules.{Rule}
 
 -- the first n bytes of the text are a word and not empty, and no more of them are a word
 pub record IsLongestWord (r : Re) (text : List ℕ) (n : ℕ) : Type 0 where
@@ -22,6 +20,6 @@ IsLongest r text None = HasNoWord r text
 IsLongest r text (Some n) = IsLongestWord r text n
 
 -- how many bytes the longest text of the rule has; None where there is none, or the rule isn't active
-abbrev pub IsLongestOfRule : ScanRule → ℕ → List ℕ → Option ℕ → Type 0
-IsLongestOfRule rule state rest None = Has rule.states state → HasNoWord (meaning rule.body.now) rest
-IsLongestOfRule rule state rest (Some n) = Has rule.states state × IsLongestWord (meaning rule.body.now) rest n
+abbrev pub IsLongestOfRule : Rule → ℕ → List ℕ → Option ℕ → Type 0
+IsLongestOfRule rule state rest None = IsTrue (rule.active state) → HasNoWord rule.body rest
+IsLongestOfRule rule state rest (Some n) = IsTrue (rule.active state) × IsLongestWord rule.body rest n

@@ -1,5 +1,6 @@
-ghost use Rattle.std.specs.Prelude.{◌-◌, ◌^◌, ◌<◌, IfOk};
+ghost use Rattle.std.specs.Prelude.{◌-◌, ◌^◌, ◌<◌, IfOk, map};
 ghost use Rattle.rex_model.specs.Positions.{HasRoomFor};
+ghost use Rattle.rex_model.specs.RuleMeaning.{rule_of, rules_of};
 
 use crate::counts::positions;
 use crate::rules::{ScanRule, ScanRules};
@@ -28,7 +29,7 @@ impl PositionSets {
     /// Sets with room for the positions of each rule. None are made for a rule with 4,294,967,295
     /// positions or more.
     pub fn new(alloc: Global, rules: &ScanRules) -> Result<PositionSets, NoMemory>
-        ensures { IfOk result (λ sets. HasRoomFor sets rules.now.rules.items) }
+        ensures { IfOk result (λ sets. HasRoomFor sets (rules_of rules.now).list) }
     {
         let size = most_positions(&rules.rules);
         if size == u32::MAX {
@@ -43,7 +44,7 @@ impl PositionSets {
 
 /// How many positions the body of a rule has at most; 4,294,967,295 where one has more.
 fn most_positions(rules: &[ScanRule]) -> u32
-    ensures { result < 2 ^ 32 - 1 → HasRoomFor result rules.now }
+    ensures { result < 2 ^ 32 - 1 → HasRoomFor result (map rule_of rules.now) }
 {
     let mut most = 0;
     for rule in rules {

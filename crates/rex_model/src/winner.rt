@@ -1,8 +1,9 @@
-ghost use Rattle.std.specs.Prelude.{◌≡◌, ◌+◌, ◌^◌, ◌<◌, ◌≤◌, length, IfOk, All, IsSome, None};
+ghost use Rattle.std.specs.Prelude.{◌≡◌, ◌+◌, ◌^◌, ◌<◌, ◌≤◌, length, map, IfOk, All, IsSome, None};
 ghost use Rattle.rex_model.specs.Best.{IsBest, longer_of};
 ghost use Rattle.rex_model.specs.Longest.{IsLongestOfRule};
 ghost use Rattle.rex_model.specs.Meaning.{meaning};
 ghost use Rattle.rex_model.specs.Positions.{position_count, HasRoomFor};
+ghost use Rattle.rex_model.specs.RuleMeaning.{rule_of, rules_of};
 ghost use Rattle.rex_model.specs.Run.{Scans};
 ghost use Rattle.rex_model.specs.Winner.{next_state};
 
@@ -31,8 +32,8 @@ pub fn scan_sets(
     at: usize,
 ) -> Result<Scan, NoMemory>
     requires few { length rules.now.rules.items < 2 ^ 32 }
-    requires plain { All (λ rule. rule.context ≡ None) rules.now.rules.items }
-    ensures { IfOk result (λ scan. Scans rules.now.rules.items text.now state at scan) }
+    requires plain { All (λ rule. rule.context ≡ None) (rules_of rules.now).list }
+    ensures { IfOk result (λ scan. Scans (rules_of rules.now).list text.now state at scan) }
 {
     let mut sets = PositionSets::new(alloc, rules)?;
     Ok(scan_with(&mut sets, rules, text, state, at))
@@ -47,9 +48,9 @@ pub fn scan_with(
     at: usize,
 ) -> Scan
     requires few { length rules.now.rules.items < 2 ^ 32 }
-    requires plain { All (λ rule. rule.context ≡ None) rules.now.rules.items }
-    requires room { HasRoomFor sets.old rules.now.rules.items }
-    ensures scan { Scans rules.now.rules.items text.now state at result }
+    requires plain { All (λ rule. rule.context ≡ None) (rules_of rules.now).list }
+    requires room { HasRoomFor sets.old (rules_of rules.now).list }
+    ensures scan { Scans (rules_of rules.now).list text.now state at result }
     ensures same { sets.new ≡ sets.old }
 {
     if at >= text.len() {
@@ -69,9 +70,9 @@ pub fn scan_with(
 /// The winner at the beginning of `rest`; `None` where no rule has a candidate.
 fn winner(sets: &mut PositionSets, rules: &[ScanRule], state: u32, rest: &[u8]) -> Option<Best>
     requires few { length rules.now < 2 ^ 32 }
-    requires plain { All (λ rule. rule.context ≡ None) rules.now }
-    requires room { HasRoomFor sets.old rules.now }
-    ensures best { IsBest rules.now state rest.now result }
+    requires plain { All (λ rule. rule.context ≡ None) (map rule_of rules.now) }
+    requires room { HasRoomFor sets.old (map rule_of rules.now) }
+    ensures best { IsBest (map rule_of rules.now) state rest.now result }
     ensures same { sets.new ≡ sets.old }
 {
     let mut best = None;
@@ -91,7 +92,7 @@ fn longest_of_rule(
     rest: &[u8],
 ) -> Option<usize>
     requires room { position_count (meaning rule.now.body.now) ≤ sets.old }
-    ensures longest { IsLongestOfRule rule.now state rest.now result }
+    ensures longest { IsLongestOfRule (rule_of rule.now) state rest.now result }
     ensures same { sets.new ≡ sets.old }
 {
     if !rule.states.has(state) {
@@ -113,8 +114,8 @@ fn longer(best: Option<Best>, rule: u32, found: Option<usize>) -> Option<Best>
 
 /// What a scan answers where this rule wins in the state, and `to` is the place after its text.
 fn scan_of(rule: &ScanRule, number: u32, to: usize, state: u32) -> Scan
-    ensures token { IsSome rule.now.token → result ≡ Scan.Token number to (next_state rule.now state) }
-    ensures skip { rule.now.token ≡ None → result ≡ Scan.Skip number to (next_state rule.now state) }
+    ensures token { IsSome rule.now.token → result ≡ Scan.Token number to (next_state (rule_of rule.now) state) }
+    ensures skip { rule.now.token ≡ None → result ≡ Scan.Skip number to (next_state (rule_of rule.now) state) }
 {
     let state = rule.next.unwrap_or(state);
     match rule.token {
