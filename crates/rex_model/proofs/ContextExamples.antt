@@ -2,8 +2,8 @@
 use Rattle.std.proofs.Common.{◌≡◌, ℕ, zero, suc, ◌+◌, ◌-◌, ◌<◌, ◌≤◌, List, [], ◌∷◌, length, take, drop, Some, slice_get, refl, ap, subst, arith, length-take, length-drop, length-append}
 use Rattle.std.specs.Prelude.{codes}
 use Rattle.rex_model.specs.Language.{Re, bytes, class, plus, no_more, Language}
-use Rattle.rex_model.specs.Rules.{Rule}
-use Rattle.rex_model.specs.Winner.{InContext, Candidate, Winner, HasNoCandidate}
+use Rattle.rex_model.specs.Rules.{Rule, trailing}
+use Rattle.rex_model.specs.Winner.{Candidate, Winner, HasNoCandidate}
 use Rattle.rex_model.proofs.WinnerExamples.{letters, name, plain_rule, rule_text, name_before_if, f_is_in, if_is_a_name, if_is_a_keyword}
 
 -- the texts of a name before "if" that "xif" begins with, and where their contexts end
@@ -11,7 +11,7 @@ text_before_if : (rules : List Rule) (i k m : ℕ) → slice_get rules i ≡ Som
     → Candidate rules 0 (codes "xif") i k m → (k ≤ 1) × (m ≡ k + 2)
 text_before_if rules i k m is_rule c =
     let same : c.rule ≡ name_before_if = cc in
-    let word = subst (λ r. InContext r.context (take (m - k) (drop k (codes "xif")))) same c.context in
+    let word = subst (λ r. Language (trailing r.context) (take (m - k) (drop k (codes "xif")))) same c.context in
     let is_if = word in
     let fits = c.fits in
     let within = c.within in
@@ -105,7 +105,7 @@ longest_text = record {
     leaves_one : (k : ℕ) → Candidate (name_before_name ∷ []) 0 (codes "iff") 0 k 3 → k ≤ 2
     leaves_one k c =
         let same : c.rule ≡ name_before_name = cc in
-        let word = subst (λ r. InContext r.context (take (3 - k) (drop k (codes "iff")))) same c.context in
+        let word = subst (λ r. Language (trailing r.context) (take (3 - k) (drop k (codes "iff")))) same c.context in
         let some = some_name (take (3 - k) (drop k (codes "iff"))) word in
         let shown = length-take (3 - k) (drop k (codes "iff")) in
         omega arith

@@ -1,11 +1,13 @@
 mod Adding
 pub mod After
 mod BestOfRules
+mod BestPair
 pub mod Comes
 mod ContextExamples
 pub mod EmptyWord
 mod Examples
 mod FirstOfParts
+mod FollowOfParts
 mod LongestBySets
 mod MeaningExamples
 pub mod Meanings
@@ -17,10 +19,11 @@ pub mod OneRun
 pub mod OneWinner
 pub mod PositionsToWords
 mod RunExamples
-mod ScanOfWinner
 mod ScannerExamples
+mod ScanOfWinner
 mod StepOfParts
 mod StepOfString
+mod TakersOfParts
 mod WinnerExamples
 pub mod Within
 pub mod WordsToPositions

@@ -5,7 +5,7 @@ use Rattle.std.proofs.lemmas.Bool.{and_parts, and_from, not-true, not_from_false
 use Rattle.std.proofs.lemmas.Option.{slice_get-map, slice_get_within, get_or_from_slice_get}
 use Rattle.ck_base.specs.BitSet.{BitSet, Has}
 use Rattle.rex_model.specs.Positions.{position_count, HasRoomFor}
-use Rattle.rex_model.specs.Rules.{Rule}
+use Rattle.rex_model.specs.Rules.{Rule, trailing}
 use Rattle.rex_model.specs.RuleMeaning.{contains, rule_of}
 use Rattle.rex_model.specs.declared.rules.ScanRule.{ScanRule}
 
@@ -23,6 +23,6 @@ contains_has set i = (
 
 -- there is room for the rule at a place
 pub room_at : (size : ℕ) (rules : List Rule) (i : ℕ) (rule : Rule) → HasRoomFor size rules → slice_get rules i ≡ Some rule
-    → position_count rule.body ≤ size
+    → (position_count rule.body ≤ size) × (position_count (trailing rule.context) ≤ size)
 room_at size rules i rule room is =
     rw (get_or_from_slice_get rules i rule rule is) at (room i rule (slice_get_within rules i rule is))

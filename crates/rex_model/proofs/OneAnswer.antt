@@ -1,7 +1,7 @@
 -- The contracts leave one answer: of the longest word, and of a scan.
 use Rattle.std.proofs.Common.{◌≡◌, ℕ, List, drop, Option, Some, None, arith, refl}
 use Rattle.rex_model.specs.Language.{Re}
-use Rattle.rex_model.specs.Longest.{IsLongest}
+use Rattle.rex_model.specs.within.Longest.{IsLongest}
 use Rattle.rex_model.specs.Rules.{Rule}
 use Rattle.rex_model.specs.Run.{Scans, end, bad, token, skip}
 use Rattle.rex_model.specs.declared.scan.Scan.{Scan}

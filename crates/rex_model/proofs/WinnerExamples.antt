@@ -2,9 +2,9 @@
 use Rattle.std.proofs.Common.{◌≡◌, ℕ, zero, suc, Bool, ◌+◌, ◌-◌, ◌<◌, ◌≤◌, ◌==◌, ◌&&◌, nat_lt, IsTrue, List, [], ◌∷◌, length, take, drop, Some, None, slice_get, refl, ap, subst, arith, length-take, length-drop}
 use Rattle.std.specs.Prelude.{codes}
 use Rattle.rex_model.specs.Language.{Re, bytes, class, plus, IsIn, Repeats, no_more, one_more, Language}
-use Rattle.rex_model.specs.Rules.{Rule}
+use Rattle.rex_model.specs.Rules.{Rule, trailing}
 use Rattle.rex_model.specs.Run.{Tokens, end, bad, token, skip, finished, bad_at}
-use Rattle.rex_model.specs.Winner.{InContext, Candidate, Winner, HasNoCandidate}
+use Rattle.rex_model.specs.Winner.{Candidate, Winner, HasNoCandidate}
 
 -- the letters a to z
 abbrev pub letters : ℕ → Bool
@@ -49,8 +49,8 @@ pub rule_text : (rules : List Rule) (state : ℕ) (rest : List ℕ) (i n m : ℕ
     → (n ≡ m) × Language rule.body (take n rest)
 rule_text rules state rest i n m rule plain is_rule c =
     let same : c.rule ≡ rule = cc in
-    let behind = subst (λ r. InContext r.context (take (m - n) (drop n rest))) same c.context in
-    let context = subst (λ x. InContext x (take (m - n) (drop n rest))) plain behind in
+    let behind = subst (λ r. Language (trailing r.context) (take (m - n) (drop n rest))) same c.context in
+    let context = subst (λ x. Language (trailing x) (take (m - n) (drop n rest))) plain behind in
     let word = subst (λ r. Language r.body (take n rest)) same c.body in
     let fits = c.fits in
     let within = c.within in
@@ -182,7 +182,7 @@ x_before_if = record {
     text_is_x : (k m : ℕ) → Candidate (name_before_if ∷ []) 0 (codes "xif") 0 k m → (k ≤ 1) × (m ≡ k + 2)
     text_is_x k m c =
         let same : c.rule ≡ name_before_if = cc in
-        let word = subst (λ r. InContext r.context (take (m - k) (drop k (codes "xif")))) same c.context in
+        let word = subst (λ r. Language (trailing r.context) (take (m - k) (drop k (codes "xif")))) same c.context in
         let is_if = word in
         let fits = c.fits in
         let within = c.within in

@@ -1,12 +1,7 @@
 -- Candidates at a place in a state, and the winner among them.
-use Rattle.std.specs.Prelude.{◌≡◌, ℕ, ◌-◌, ◌<◌, ◌≤◌, IsTrue, List, [], length, take, drop, Option, Some, None, slice_get}
-use Rattle.rex_model.specs.Language.{Re, Language}
-use Rattle.rex_model.specs.Rules.{Rule}
-
--- the word may stand behind a token's text: it is in the context's language, and empty without one
-abbrev pub InContext : Option Re → List ℕ → Type 0
-InContext None word = word ≡ []
-InContext (Some context) word = Language context word
+use Rattle.std.specs.Prelude.{◌≡◌, ℕ, ◌-◌, ◌<◌, ◌≤◌, IsTrue, List, length, take, drop, Option, Some, None, slice_get}
+use Rattle.rex_model.specs.Language.{Language}
+use Rattle.rex_model.specs.Rules.{Rule, trailing}
 
 -- rule i has a candidate at the beginning of `rest`: its text is the first n bytes, and text and
 -- context together are the first m
@@ -18,7 +13,7 @@ pub record Candidate (rules : List Rule) (state : ℕ) (rest : List ℕ) (i n m 
   pub fits : n ≤ m
   pub within : m ≤ length rest
   pub body : Language rule.body (take n rest)
-  pub context : InContext rule.context (take (m - n) (drop n rest))
+  pub context : Language (trailing rule.context) (take (m - n) (drop n rest))
 
 -- the candidate that wins: the longest with its context, then of the first rule, then with the
 -- longest text
