@@ -1,5 +1,8 @@
+pub mod Counting
 mod Examples
 mod NameAdded
 mod NameFound
-mod OrJoinsBits
+pub mod OrJoinsBits
+pub mod Representing
+pub mod SameWords
 mod WordsActAsSets
