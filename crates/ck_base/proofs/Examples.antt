@@ -1,5 +1,5 @@
 -- The definitions, tried on known cases.
-use Rattle.std.proofs.Common.{◌≡◌, ℕ, zero, suc, ◌^◌, inl, inr, refl, sym, ap, subst, lit<, arith, List, [], ◌∷◌, ◌++◌, length, Contains, Vec, Global, slice_index, bit_or, ◌/◌, ◌%◌}
+use Rattle.std.proofs.Common.{◌≡◌, ℕ, zero, suc, ◌^◌, inl, inr, refl, sym, subst, lit<, arith, List, [], ◌∷◌, length, Some, None, Vec, Global, slice_index, bit_or, ◌/◌, ◌%◌}
 use Rattle.std.specs.Prelude.{codes, IsBitSet}
 use Rattle.std.specs.Fmt.{digits}
 use Rattle.ck_base.specs.declared.fault.Kind.TheVariants.{Syntax, Typing}
@@ -8,7 +8,7 @@ use Rattle.ck_base.specs.declared.refusal.Refusal.TheVariants.{Usage, BadSpec, S
 use Rattle.ck_base.specs.declared.status.Status.TheVariants as status
 use Rattle.ck_base.specs.BitSet.{BitSet, Has, IsEmpty, Adds, Grew}
 use Rattle.ck_base.specs.Lines.{line_of, status_of, code_of}
-use Rattle.ck_base.specs.Numbered.{texts, AreNumbered, Interns, known, added}
+use Rattle.ck_base.specs.Numbered.{texts, AreNumbered, number_of, met}
 use Rattle.ck_base.specs.Words.{IsFit, AreJoined, Differ}
 
 -- the kind stands after the line
@@ -144,24 +144,21 @@ bytes_in_order v w = refl
 abbrev ab : List (List ℕ)
 ab = codes "a" ∷ codes "b" ∷ []
 
--- an old name keeps its number, and the names stay
-old_name : Interns ab ab (codes "b") 1
-old_name = known refl refl
+-- a number is the place from 0
+number_of_b : number_of ab (codes "b") ≡ Some 1
+number_of_b = refl
 
 -- the empty byte string is neither of the two
-empty_is_absent : Contains ab [] → ⊥
-empty_is_absent (zero, within, is) = cc
-empty_is_absent (suc zero, within, is) = cc
-empty_is_absent (suc (suc k), within, is) = omega arith
+no_number : number_of ab [] ≡ None
+no_number = refl
 
--- a new name goes to the end, and has the next number
-new_name : Interns ab (codes "a" ∷ codes "b" ∷ [] ∷ []) [] 2
-new_name = added empty_is_absent refl refl
+-- an old name isn't added a second time, wherever it stands
+not_twice : met ab (codes "a" ∷ []) ≡ ab
+not_twice = refl
 
--- an old name isn't added a second time
-not_twice : Interns ab (ab ++ codes "b" ∷ []) (codes "b") 2 → ⊥
-not_twice (known same there) = omega (arith, ap length same)
-not_twice (added absent same next) = absent (1, lit< tt, refl)
+-- new names go to the end, in the order in which they are first met
+in_order : met ab (codes "d" ∷ codes "a" ∷ codes "c" ∷ codes "d" ∷ []) ≡ codes "a" ∷ codes "b" ∷ codes "d" ∷ codes "c" ∷ []
+in_order = refl
 
 -- no list of names has one of them twice
 no_doubles : AreNumbered (codes "a" ∷ codes "a" ∷ []) → ⊥

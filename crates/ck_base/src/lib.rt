@@ -6,7 +6,7 @@
 //! | a name; names with numbers | `src/name.rt`, `src/names.rt`; `specs/Numbered.antt` |
 //! | a set of the numbers below a size; its words | `src/bits.rt`; `specs/BitSet.antt`; `specs/Words.antt` |
 //! | each refusal with its line and status | `src/refusal.rt`, `src/status.rt`; `specs/Lines.antt` |
-//! | a name has one number | `proofs/NameFound.antt`, `proofs/NameAdded.antt` |
+//! | a name has one number; what is met keeps it | `proofs/NameFound.antt`, `proofs/NameAdded.antt`; `proofs/NamesMet.antt` |
 //! | the words act as the set | `proofs/WordsActAsSets.antt`, `proofs/OrJoinsBits.antt` |
 #![tactic(auto)]
 
