@@ -9,7 +9,7 @@ use Rattle.ck_base.specs.declared.refusal.Refusal.{Refusal}
 use Rattle.ck_base.specs.declared.refusal.Refusal.TheVariants as refusal
 use Rattle.ck_io.specs.Contents.{IsTold, IsLonger}
 use Rattle.ck_io.specs.Faults.{Rose}
-use Rattle.rex_model.specs.declared.rules.ScanRules.{ScanRules}
+use Rattle.rex_model.specs.Rules.{Rules}
 use Rattle.ck_tool.specs.Accepts.{RefusesSpec, faulty, Accepts}
 use Rattle.ck_tool.specs.Outcome.{Outcome, refused, Makes, AnswerOf, makes}
 use Rattle.ck_tool.specs.Wanted.{Settles, by_words, by_spec, by_source, no_files, one_more, Wanted, Reads}
@@ -59,7 +59,7 @@ module _ (contents : List ℕ → Option (List ℕ)) (words : List (List ℕ)) (
     settles = by_spec stage spec_name source_name spec r are refuses;
   }
 
-  module _ (spec : List ℕ) (rules : ScanRules) (spec_is_told : IsTold (contents spec_name) spec) (accepts : Accepts spec rules) where
+  module _ (spec : List ℕ) (rules : Rules) (spec_is_told : IsTold (contents spec_name) spec) (accepts : Accepts spec rules) where
     -- the source is read
     pub reads_source : Reads contents words source_name
     reads_source = record {
@@ -138,7 +138,7 @@ module _ (contents : List ℕ → Option (List ℕ)) (words : List (List ℕ)) (
       wanted_of_spec contents words stage spec_name source_name are spec (refusal.BadSpec line kind) told (faulty fits line kind is)
   stop_at_fault spec fault.NoMemory told fits is = tt
 
-  module _ (spec : List ℕ) (rules : ScanRules) (told : IsTold (contents spec_name) spec) (accepts : Accepts spec rules) where
+  module _ (spec : List ℕ) (rules : Rules) (told : IsTold (contents spec_name) spec) (accepts : Accepts spec rules) where
     -- the source wasn't read
     pub stop_at_source : (failed : Type 0) (limit : ℕ) (rose : Type 0) (stop : Stop) → limit ≡ 4194304 → (rose → failed)
         → IsStopOfRead refusal.SourceTooLong (IsLonger (contents source_name) limit) rose stop → IsStop (Wanted contents words) failed stop

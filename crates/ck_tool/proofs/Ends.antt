@@ -16,7 +16,7 @@ use Rattle.ck_tool.specs.declared.stop.Stop.{Stop}
 use Rattle.ck_tool.specs.declared.stop.Stop.TheVariants.{Refused, ReadFault, NoMemory}
 use Rattle.ck_tool.specs.within.Stops.{Explains, answer_in}
 use Rattle.ck_tool.proofs.OneOutcome.{one_outcome}
-use Rattle.rex_model.specs.declared.rules.ScanRules.{ScanRules}
+use Rattle.rex_model.specs.Rules.{Rules}
 
 -- a stop was explained
 pub by_stop : (words : List (List ℕ)) (found : Result (Vec ℕ Global) Stop) (out err : Sunk) (ends : Status) (stop : Stop) → found ≡ Err stop
@@ -57,7 +57,7 @@ by_wrong_words contents words failed out err ends wrong kept tells =
     }) kept tells
 
 -- no stage answers Usage; one case for each stage
-makes_no_usage : (stage : Stage) (rules : ScanRules) (source : List ℕ) → Makes stage rules source (refused refusal.Usage) → ⊥
+makes_no_usage : (stage : Stage) (rules : Rules) (source : List ℕ) → Makes stage rules source (refused refusal.Usage) → ⊥
 makes_no_usage stages.Tokens rules source scans = elim scans [ ]
 
 -- Usage is wanted for wrong words alone
@@ -72,10 +72,7 @@ usage_is_wrong words _ (by_source stage s x spec source rules _ are accepts answ
 -- the one refusal with status 1
 usage_of_status : (r : Refusal) → status_of r ≡ status.Usage → r ≡ refusal.Usage
 usage_of_status refusal.Usage is = refl
-usage_of_status refusal.SpecTooLong is = cc
-usage_of_status (refusal.BadSpec line kind) is = cc
-usage_of_status refusal.SourceTooLong is = cc
-usage_of_status (refusal.BadToken line col) is = cc
+usage_of_status _ is = cc
 
 -- a run ends in status 1 only where the words aren't right
 usage_only : (contents : List ℕ → Option (List ℕ)) (words : List (List ℕ)) (failed : Type 0) (out err : Sunk) (ends : Status)

@@ -1,12 +1,11 @@
 -- Words, printed tokens and the tokens of a text, tried on cases that are worked by hand.
-use Rattle.std.proofs.Common.{◌≡◌, [], ◌∷◌, ◌++◌, Some, None, codes, refl, arith}
+use Rattle.std.proofs.Common.{◌≡◌, ◌==◌, [], ◌∷◌, ◌++◌, Some, None, codes, refl, arith}
 use Rattle.std.specs.Fmt.{digits}
-use Rattle.ck_base.specs.BitSet.{Has}
-use Rattle.rex_model.specs.Language.{bytes}
-use Rattle.rex_model.specs.Meaning.{meaning}
+use Rattle.rex_model.specs.Language.{bytes, class, plus}
 use Rattle.rex_model.specs.Run.{Tokens as TokensOf, finished}
-use Rattle.rex_model.specs.Winner.{Candidate, Winner}
-use Rattle.rex_model.specs.declared.rules.ScanRule.{ScanRule}
+use Rattle.rex_model.specs.Winner.{Winner}
+use Rattle.rex_model.specs.Rules.{Rule}
+use Rattle.ck_tool.specs.LineTokens.{is_between}
 use Rattle.ck_tool.specs.TokenText.{quoted, token_line, tokens_text}
 use Rattle.ck_tool.specs.Words.{AreRight, of_stage}
 use Rattle.ck_tool.specs.declared.stage.Stage.TheVariants.{Tokens}
@@ -58,29 +57,31 @@ empty_name (of_stage stage spec source are) =
 other_command : AreRight (codes "run" ∷ codes "s" ∷ codes "x" ∷ []) → ⊥
 other_command (of_stage Tokens spec source are) = let words = are.words_are in cc
 
--- "if" is a candidate of a rule for "if"
-if_candidate : (keyword other : ScanRule) → Has keyword.states 0 → meaning keyword.body.now ≡ bytes (codes "if") → keyword.context ≡ None
-    → Candidate (keyword ∷ other ∷ []) 0 (codes "if") 0 2 2
-if_candidate keyword other active body context = record {
-  rule = keyword;
-  is_rule = refl;
-  active = active;
-  some = omega arith;
-  fits = omega arith;
-  within = omega arith;
-  body = rw body refl;
-  context = rw context refl;
+-- rules for "if" and for words, whose tokens have the numbers 7 and 8
+abbrev keyword : Rule
+keyword = record { active = λ state. state == 0; body = bytes (codes "if"); context = None; token = Some 7; next = None }
+
+abbrev word_rule : Rule
+word_rule = record { active = λ state. state == 0; body = plus (class (λ byte. is_between 97 122 byte)); context = None; token = Some 8; next = None }
+
+-- the text "if" is one token of the first
+if_wins : Winner (keyword ∷ word_rule ∷ []) 0 (codes "if") 0 2 2
+if_wins = record {
+  candidate = record {
+    rule = keyword;
+    is_rule = refl;
+    active = refl;
+    some = omega arith;
+    fits = omega arith;
+    within = omega arith;
+    body = refl;
+    context = refl;
+  };
+  longest = λ j k l candidate. candidate.within;
+  first = λ j k candidate. omega arith;
+  greatest = λ k candidate. candidate.fits;
 }
 
--- whatever the second rule is, the text "if" is one token of the first
-one_token : (keyword other : ScanRule) → Has keyword.states 0 → meaning keyword.body.now ≡ bytes (codes "if") → keyword.context ≡ None
-    → keyword.token ≡ Some 7 → TokensOf (keyword ∷ other ∷ []) (codes "if") 0 0 (record { number = 7; from = 0; to = 2 } ∷ []) finished
-unfolding if_candidate
-one_token keyword other active body context number =
-    let won : Winner (keyword ∷ other ∷ []) 0 (codes "if") 0 2 2 = record {
-      candidate = if_candidate keyword other active body context;
-      longest = λ j k l candidate. candidate.within;
-      first = λ j k candidate. omega arith;
-      greatest = λ k candidate. candidate.fits;
-    } in
-    TokensOf.token 0 0 0 2 2 7 [] finished won number (TokensOf.end _ 2 refl)
+one_token : TokensOf (keyword ∷ word_rule ∷ []) (codes "if") 0 0 (record { number = 7; from = 0; to = 2 } ∷ []) finished
+unfolding if_wins
+one_token = TokensOf.token 0 0 0 2 2 7 [] finished if_wins refl (TokensOf.end _ 2 refl)

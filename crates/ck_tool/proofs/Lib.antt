@@ -16,7 +16,6 @@ mod PiecesSoFar
 mod PrintedLine
 mod RuleParts
 mod RulesSoFar
-mod SameScanRules
 mod ScannedRules
 mod SectionsOfLines
 mod ThreeWords

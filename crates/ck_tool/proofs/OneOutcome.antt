@@ -5,13 +5,11 @@ use Rattle.ck_base.specs.declared.refusal.Refusal.{Refusal}
 use Rattle.ck_base.specs.declared.refusal.Refusal.TheVariants as refusal
 use Rattle.ck_io.specs.Contents.{IsTold}
 use Rattle.rex_model.specs.Place.{line_at, column_at}
-use Rattle.rex_model.specs.Run.{Token, Ending, Tokens, finished, bad_at}
-use Rattle.rex_model.specs.Alike.{AreAlike}
-use Rattle.rex_model.specs.declared.rules.ScanRules.{ScanRules}
-use Rattle.rex_model.proofs.AlikeRules.{same_tokens}
+use Rattle.rex_model.specs.Run.{finished, bad_at}
+use Rattle.rex_model.specs.Rules.{Rules}
 use Rattle.rex_model.proofs.OneRun.{one_run}
 use Rattle.ck_tool.specs.Accepts.{RefusesSpec, too_long, faulty, Accepts}
-use Rattle.ck_tool.specs.Declares.{DeclaresRules}
+use Rattle.ck_tool.specs.Declares.{declared_rules}
 use Rattle.ck_tool.specs.Outcome.{Outcome, output, refused, Scanning, bad_token, printed, Makes, AnswerOf, makes}
 use Rattle.ck_tool.specs.TokenText.{tokens_text}
 use Rattle.ck_tool.specs.Wanted.{Settles, by_words, by_spec, by_source, names_in, Hold, no_files, one_more, Wanted, Reads, AreTold}
@@ -19,7 +17,6 @@ use Rattle.ck_tool.specs.Words.{AreOfStage, of_stage, name_of}
 use Rattle.ck_tool.specs.declared.stage.Stage.{Stage}
 use Rattle.ck_tool.specs.declared.stage.Stage.TheVariants as stages
 use Rattle.ck_tool.proofs.OneFault.{one_fault, no_fault, one_declaration}
-use Rattle.ck_tool.proofs.SameScanRules.{one_numbering, met_apart, are_alike}
 
 -- a specification is refused in one way
 one_refusal : (spec : List ℕ) (r s : Refusal) → RefusesSpec spec r → RefusesSpec spec s → r ≡ s
@@ -31,55 +28,40 @@ one_refusal spec _ _ (faulty fits line kind fault) (faulty fits2 line2 kind2 fau
     cc
 
 -- or accepted
-pub refused_or_accepted : (spec : List ℕ) (r : Refusal) (rules : ScanRules) → RefusesSpec spec r → Accepts spec rules → ⊥
+pub refused_or_accepted : (spec : List ℕ) (r : Refusal) (rules : Rules) → RefusesSpec spec r → Accepts spec rules → ⊥
 refused_or_accepted spec _ rules (too_long longer) accepts = omega (arith, accepts.fits)
 refused_or_accepted spec _ rules (faulty fits line kind fault) accepts = no_fault spec accepts.declares.declared line kind accepts.declares.by_lines fault
 
--- the scan rules of a specification are alike, and name the same tokens
-same_rules : (spec : List ℕ) (these those : ScanRules) → DeclaresRules spec these → DeclaresRules spec those
-    → (these.tokens ≡ those.tokens) × AreAlike these.rules.items those.rules.items
-same_rules spec these those a b =
-    let ds = one_declaration spec a.declared b.declared a.by_lines b.by_lines in
-    let names = one_numbering [] b.declared these.tokens those.tokens (rw ds at a.tokens) b.tokens in
-    let apart = met_apart [] b.declared those.tokens (λ i j name at_i at_j. cc) b.tokens in
-    (names, are_alike those.tokens b.declared these.rules.items those.rules.items apart (rw (ds, names) at a.are_rules) b.are_rules)
-
--- the tokens of a source by such rules
-same_run : (these those : ScanRules) (source : List ℕ) (ts us : List Token) (e f : Ending) → AreAlike these.rules.items those.rules.items
-    → Tokens these.rules.items source 0 0 ts e → Tokens those.rules.items source 0 0 us f → (ts ≡ us) × (e ≡ f)
-same_run these those source ts us e f are run run2 =
-    one_run those.rules.items source 0 0 ts us e f (same_tokens these.rules.items those.rules.items source 0 0 ts e are run) run2
+-- a specification declares the same scan rules
+one_meaning : (spec : List ℕ) (these those : Rules) → Accepts spec these → Accepts spec those → these ≡ those
+one_meaning spec these those a b =
+    let ds = one_declaration spec a.declares.declared b.declares.declared a.declares.by_lines b.declares.by_lines in
+    a.declares.are_rules ∙ ap declared_rules ds ∙ sym b.declares.are_rules
 
 -- scanning a source has one answer
-one_scanning : (these those : ScanRules) (source : List ℕ) (o p : Outcome) → these.tokens ≡ those.tokens → AreAlike these.rules.items those.rules.items
-    → Scanning these source o → Scanning those source p → o ≡ p
-one_scanning these those source _ _ names are (bad_token ts at run) (bad_token us at2 run2) =
-    let (lists, ends) = same_run these those source ts us (bad_at at) (bad_at at2) are run run2 in
+one_scanning : (rules : Rules) (source : List ℕ) (o p : Outcome) → Scanning rules source o → Scanning rules source p → o ≡ p
+one_scanning rules source _ _ (bad_token ts at run) (bad_token us at2 run2) =
+    let (lists, ends) = one_run rules.list source 0 0 ts us (bad_at at) (bad_at at2) run run2 in
     let places : at ≡ at2 = cc in
     ap (λ place. refused (refusal.BadToken (line_at source place) (column_at source place))) places
-one_scanning these those source _ _ names are (bad_token ts at run) (printed us run2) =
-    let (lists, ends) = same_run these those source ts us (bad_at at) finished are run run2 in
-    cc
-one_scanning these those source _ _ names are (printed ts run) (bad_token us at run2) =
-    let (lists, ends) = same_run these those source ts us finished (bad_at at) are run run2 in
-    cc
-one_scanning these those source _ _ names are (printed ts run) (printed us run2) =
-    let (lists, ends) = same_run these those source ts us finished finished are run run2 in
-    ap (λ all. output (tokens_text all source ts)) names ∙ ap (λ all. output (tokens_text those.tokens source all)) lists
+one_scanning rules source _ _ (bad_token ts at run) (printed us run2) =
+    let (lists, ends) = one_run rules.list source 0 0 ts us (bad_at at) finished run run2 in cc
+one_scanning rules source _ _ (printed ts run) (bad_token us at run2) =
+    let (lists, ends) = one_run rules.list source 0 0 ts us finished (bad_at at) run run2 in cc
+one_scanning rules source _ _ (printed ts run) (printed us run2) =
+    let (lists, ends) = one_run rules.list source 0 0 ts us finished finished run run2 in
+    ap (λ all. output (tokens_text rules.tokens source all)) lists
 
 -- what a stage makes of a source is one answer; one case for each stage
-one_making : (stage : Stage) (these those : ScanRules) (source : List ℕ) (o p : Outcome) → these.tokens ≡ those.tokens
-    → AreAlike these.rules.items those.rules.items → Makes stage these source o → Makes stage those source p → o ≡ p
-one_making stages.Tokens these those source o p names are scans scans2 = one_scanning these those source o p names are scans scans2
+one_making : (stage : Stage) (rules : Rules) (source : List ℕ) (o p : Outcome) → Makes stage rules source o → Makes stage rules source p → o ≡ p
+one_making stages.Tokens rules source o p scans scans2 = one_scanning rules source o p scans scans2
 
 -- a stage has one answer for a source
-one_answer : (stage : Stage) (these those : ScanRules) (source : List ℕ) (o p : Outcome) → these.tokens ≡ those.tokens
-    → AreAlike these.rules.items those.rules.items → AnswerOf stage these source o → AnswerOf stage those source p → o ≡ p
-one_answer stage these those source _ _ names are (AnswerOf.too_long longer) (AnswerOf.too_long longer2) = refl
-one_answer stage these those source _ _ names are (AnswerOf.too_long longer) (makes p fits made) = absurd (omega arith)
-one_answer stage these those source _ _ names are (makes o fits made) (AnswerOf.too_long longer) = absurd (omega arith)
-one_answer stage these those source _ _ names are (makes o fits made) (makes p fits2 made2) =
-    one_making stage these those source o p names are made made2
+one_answer : (stage : Stage) (rules : Rules) (source : List ℕ) (o p : Outcome) → AnswerOf stage rules source o → AnswerOf stage rules source p → o ≡ p
+one_answer stage rules source _ _ (AnswerOf.too_long longer) (AnswerOf.too_long longer2) = refl
+one_answer stage rules source _ _ (AnswerOf.too_long longer) (makes p fits made) = absurd (omega arith)
+one_answer stage rules source _ _ (makes o fits made) (AnswerOf.too_long longer) = absurd (omega arith)
+one_answer stage rules source _ _ (makes o fits made) (makes p fits2 made2) = one_making stage rules source o p made made2
 
 -- each stage has a name of its own
 one_stage : (these those : Stage) → name_of these ≡ name_of those → these ≡ those
@@ -115,8 +97,8 @@ one_settled words _ more _ _ _ (by_source stage s x spec source rules o are acce
     let specs : spec ≡ spec2 = cc in
     let sources : source ≡ source2 = cc in
     let stage_is = same_stage words stage stage2 s x s2 x2 are are2 in
-    let both = same_rules spec2 rules rules2 (rw specs at accepts.declares) accepts2.declares in
-    (cc, one_answer stage2 rules rules2 source2 o p both.0 both.1 (rw (stage_is, sources) at answers) answers2)
+    let meanings = one_meaning spec2 rules rules2 (rw specs at accepts) accepts2 in
+    (cc, one_answer stage2 rules2 source2 o p (rw (stage_is, sources, meanings) at answers) answers2)
 
 -- a file that is told has these bytes alone
 one_told : (told : Option (List ℕ)) (bytes others : List ℕ) → IsSome told → IsTold told bytes → IsTold told others → bytes ≡ others

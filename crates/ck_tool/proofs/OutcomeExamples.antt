@@ -1,6 +1,5 @@
 -- The answer of a run, the names that it reads and how it ends, tried on cases that are worked by hand.
 use Rattle.std.proofs.Common.{◌≡◌, ◌⊎◌, inl, inr, ℕ, List, [], ◌∷◌, ◌++◌, length, Option, Some, codes, refl, arith, take, length-take, ap}
-use Rattle.std.specs.Prelude.{slice_get}
 use Rattle.std.specs.Fmt.{digits}
 use Rattle.ck_base.specs.declared.fault.Kind.TheVariants.{Section}
 use Rattle.ck_base.specs.Lines.{status_of}
@@ -9,9 +8,8 @@ use Rattle.ck_base.specs.declared.refusal.Refusal.TheVariants as refusal
 use Rattle.ck_base.specs.declared.status.Status.{Status}
 use Rattle.ck_base.specs.declared.status.Status.TheVariants as status
 use Rattle.rex_model.specs.Run.{Tokens}
-use Rattle.rex_model.specs.declared.rules.ScanRules.{ScanRules}
 use Rattle.ck_tool.specs.Accepts.{RefusesSpec, too_long, faulty, Accepts}
-use Rattle.ck_tool.specs.Declares.{no_rules, no_more}
+use Rattle.ck_tool.specs.Declares.{declared_rules}
 use Rattle.ck_tool.specs.Outcome.{Outcome, output, refused, bad_token, printed, makes}
 use Rattle.ck_tool.specs.Ran.{Sunk, Kept, FaultsRose, Gained, GainedPart, Answers, UsageExactly, told, cut, Ran, done, refusing, memory, reading, writing, ended}
 use Rattle.ck_tool.specs.Wanted.{by_words, no_files, Wanted}
@@ -35,38 +33,22 @@ one_file contents = record { names = []; others = codes "s" ∷ []; files = []; 
     wrong : AreRight (codes "tokens" ∷ codes "s" ∷ []) → ⊥
     wrong (of_stage stage spec source are) = let is = are.words_are in cc
 
--- rules that the specification without rules declares
-abbrev AreNone : ScanRules → Type 0
-AreNone rules = (rules.states ≡ codes "STD" ∷ []) × (rules.tokens ≡ []) × (rules.rules.items ≡ [])
-
-accepts_none : (rules : ScanRules) → AreNone rules → Accepts no_rule rules
-accepts_none rules (states, names, items) = record {
-  fits = omega arith;
-  declares = record {
-    declared = [];
-    by_lines = declares_nothing;
-    states = states;
-    tokens = rw names (no_more []);
-    are_rules = rw items no_rules;
-  };
-}
+-- a specification without rules is accepted
+accepts_none : Accepts no_rule (declared_rules [])
+accepts_none = record { fits = omega arith; declares = record { declared = []; by_lines = declares_nothing; are_rules = refl } }
 
 module _ (contents : List ℕ → Option (List ℕ)) where
   -- no rules and an empty source: `1:1 END` is printed
-  wants_end : (rules : ScanRules) → AreNone rules → contents (codes "s") ≡ Some no_rule → contents (codes "x") ≡ Some []
-      → Wanted contents words (output (codes "1:1 END" ++ 10 ∷ []))
+  wants_end : contents (codes "s") ≡ Some no_rule → contents (codes "x") ≡ Some [] → Wanted contents words (output (codes "1:1 END" ++ 10 ∷ []))
   unfolding digits
-  wants_end rules none spec source = wanted_of_source contents words of_tokens _ _ are_tokens no_rule rules (rw spec refl)
-      (accepts_none rules none) [] _ (rw source refl) (makes _ (omega arith) (printed [] (Tokens.end 0 0 refl)))
+  wants_end spec source = wanted_of_source contents words of_tokens _ _ are_tokens no_rule _ (rw spec refl) accepts_none [] _ (rw source refl)
+      (makes _ (omega arith) (printed [] (Tokens.end 0 0 refl)))
 
   -- no rules and any byte: its place is bad
-  wants_bad_token : (rules : ScanRules) → AreNone rules → contents (codes "s") ≡ Some no_rule → contents (codes "x") ≡ Some (codes "a")
+  wants_bad_token : contents (codes "s") ≡ Some no_rule → contents (codes "x") ≡ Some (codes "a")
       → Wanted contents words (refused (refusal.BadToken 1 1))
-  wants_bad_token rules none spec source = wanted_of_source contents words of_tokens _ _ are_tokens no_rule rules (rw spec refl)
-      (accepts_none rules none) (codes "a") _ (rw source refl) (makes _ (omega arith) (bad_token [] 0 (Tokens.bad 0 0 (omega arith) (λ i n m c.
-      let is = c.is_rule in
-      let nowhere : slice_get [] i ≡ Some c.rule = rw none.2 at is in
-      cc))))
+  wants_bad_token spec source = wanted_of_source contents words of_tokens _ _ are_tokens no_rule _ (rw spec refl) accepts_none (codes "a") _
+      (rw source refl) (makes _ (omega arith) (bad_token [] 0 (Tokens.bad 0 0 (omega arith) (λ i n m c. let is = c.is_rule in cc))))
 
   -- an empty specification is refused for its first line, whatever the source is
   wants_bad_spec : contents (codes "s") ≡ Some [] → Wanted contents words (refused (refusal.BadSpec 1 Section))
@@ -108,13 +90,10 @@ wrong_words_want_none words err exactly wrong = neither (exactly.always wrong)
     neither (inl is) = cc
     neither (inr (is, failed)) = cc
 
--- no refusal has the status of a run that is done, or of want of memory
+-- no refusal has the status of a run that is done
 refusal_is_not_done : (r : Refusal) → status_of r ≡ status.Done → ⊥
 refusal_is_not_done refusal.Usage is = cc
-refusal_is_not_done refusal.SpecTooLong is = cc
-refusal_is_not_done (refusal.BadSpec line kind) is = cc
-refusal_is_not_done refusal.SourceTooLong is = cc
-refusal_is_not_done (refusal.BadToken line col) is = cc
+refusal_is_not_done _ is = cc
 
 module _ (words : List (List ℕ)) (wants : Outcome → Type 0) (failed : Type 0) (out err : Sunk) where
   -- a run that is done has told no line

@@ -5,7 +5,7 @@ use Rattle.ck_base.specs.declared.refusal.Refusal.{Refusal}
 use Rattle.ck_base.specs.declared.refusal.Refusal.TheVariants.{Usage}
 use Rattle.ck_io.specs.Contents.{IsTold}
 use Rattle.ck_io.specs.Faults.{Rose}
-use Rattle.rex_model.specs.declared.rules.ScanRules.{ScanRules}
+use Rattle.rex_model.specs.Rules.{Rules}
 use Rattle.ck_tool.specs.declared.stage.Stage.{Stage}
 use Rattle.ck_tool.specs.Accepts.{RefusesSpec, Accepts}
 use Rattle.ck_tool.specs.Outcome.{Outcome, refused, AnswerOf}
@@ -17,7 +17,7 @@ pub data Settles (words : List (List ℕ)) : List (List ℕ) → Outcome → Typ
   by_spec : (stage : Stage) (spec_name source_name spec : List ℕ) (r : Refusal)
       → AreOfStage words stage spec_name source_name → RefusesSpec spec r
       → Settles words (spec ∷ []) (refused r)
-  by_source : (stage : Stage) (spec_name source_name spec source : List ℕ) (rules : ScanRules)
+  by_source : (stage : Stage) (spec_name source_name spec source : List ℕ) (rules : Rules)
       (answer : Outcome) → AreOfStage words stage spec_name source_name → Accepts spec rules
       → AnswerOf stage rules source answer → Settles words (spec ∷ source ∷ []) answer
 

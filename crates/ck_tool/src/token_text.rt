@@ -1,6 +1,7 @@
 ghost use Rattle.std.specs.Prelude.{◌≡◌, ◌≢◌, ◌+◌, ◌^◌, ◌<◌, ◌++◌, length, decimal, All, IfSome, OnOk, Some, None, slice_get};
+ghost use Rattle.rex_model.specs.RuleMeaning.{rules_of};
 ghost use Rattle.ck_tool.specs.Outcome.{Scanning};
-ghost use Rattle.ck_tool.specs.within.Places.{printed_place, printed_token, printed_end};
+ghost use Rattle.ck_tool.specs.within.Places.{NameTokens, printed_place, printed_token, printed_end};
 ghost use Rattle.ck_tool.specs.within.Stops.{answer_in};
 
 use crate::place::Place;
@@ -14,10 +15,9 @@ use std::alloc::Global;
 /// The printed tokens of the source, a line each, with END at the end.
 pub(crate) fn tokens_text(alloc: Global, rules: &ScanRules, source: &[u8]) -> Result<Vec<u8>, Stop>
     requires few { length rules.now.rules.items < 2 ^ 32 }
-    requires plain { All (λ rule. rule.context ≡ None) rules.now.rules.items }
-    requires named { All (λ rule. IfSome rule.token (λ t. t < length rules.now.tokens)) rules.now.rules.items }
+    requires named { NameTokens rules.now }
     requires small { length source.now + 1 < 2 ^ 32 }
-    ensures answer { IfSome (answer_in result) (Scanning rules.now source.now) }
+    ensures answer { IfSome (answer_in result) (Scanning (rules_of rules.now) source.now) }
     ensures reads_nothing { result ≢ Err Stop.ReadFault }
 {
     let mut out = Vec::new(alloc);
@@ -61,8 +61,9 @@ pub(crate) fn tokens_text(alloc: Global, rules: &ScanRules, source: &[u8]) -> Re
 /// The name of the rule's token; empty where it has none.
 fn token_name<'r>(rules: &'r ScanRules, rule: u32) -> &'r [u8]
     requires rule { rule < length rules.now.rules.items }
-    requires named { All (λ rule. IfSome rule.token (λ t. t < length rules.now.tokens)) rules.now.rules.items }
-    ensures { IfSome (slice_get rules.now.rules.items rule) (λ r. IfSome r.token (λ t. slice_get rules.now.tokens t ≡ Some result.now)) }
+    requires named { NameTokens rules.now }
+    ensures { IfSome (slice_get rules.now.rules.items rule)
+        (λ found. IfSome found.token (λ t. slice_get rules.now.tokens t ≡ Some result.now)) }
 {
     match rules.rules[rule as usize].token {
         Some(token) => rules.tokens.text_of(token),

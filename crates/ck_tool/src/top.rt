@@ -1,10 +1,12 @@
-ghost use Rattle.std.specs.Prelude.{◌≡◌, ◌≢◌, ◌+◌, ◌^◌, ◌<◌, ◌≤◌, ◌⊎◌, ℕ, List, length, map, string_bytes, All, IfOk, IfErr, IfSome};
+ghost use Rattle.std.specs.Prelude.{◌≡◌, ◌≢◌, ◌+◌, ◌^◌, ◌<◌, ◌≤◌, ◌⊎◌, ℕ, List, length, map, string_bytes, IfOk, IfErr, IfSome};
 ghost use Rattle.ck_io.specs.Contents.{IsLonger, IsTold, SameContents};
 ghost use Rattle.ck_io.specs.Faults.{Rose, NoneFell};
+ghost use Rattle.rex_model.specs.RuleMeaning.{rules_of};
 ghost use Rattle.ck_tool.specs.Outcome.{Outcome, Makes};
 ghost use Rattle.ck_tool.specs.Ran.{Answers, NoneFailed, Ran, UsageExactly, WantedMemory, WritesOnlyDone, sunk};
 ghost use Rattle.ck_tool.specs.Wanted.{AreTold, ReadFailed, Wanted};
 ghost use Rattle.ck_tool.specs.Words.{AreRight};
+ghost use Rattle.ck_tool.specs.within.Places.{NameTokens};
 ghost use Rattle.ck_tool.specs.within.Stops.{Explains, IsAsked, IsStopOfRead, answer_in};
 
 use crate::reader::read_rules;
@@ -90,10 +92,9 @@ fn answer_of<F: Files>(alloc: Global, command: Command, files: &mut F) -> Result
 /// What the stage makes of the source, or why it is refused.
 fn make(alloc: Global, stage: Stage, rules: &ScanRules, source: &[u8]) -> Result<Vec<u8>, Stop>
     requires few { length rules.now.rules.items < 2 ^ 32 }
-    requires plain { All (λ rule. rule.context ≡ None) rules.now.rules.items }
-    requires named { All (λ rule. IfSome rule.token (λ t. t < length rules.now.tokens)) rules.now.rules.items }
+    requires named { NameTokens rules.now }
     requires small { length source.now + 1 < 2 ^ 32 }
-    ensures answer { IfSome (answer_in result) (Makes stage rules.now source.now) }
+    ensures answer { IfSome (answer_in result) (Makes stage (rules_of rules.now) source.now) }
     ensures reads_nothing { result ≢ Err Stop.ReadFault }
 {
     match stage {

@@ -1,36 +1,38 @@
 -- The scan rules that lines declare, and the fault where one declares none.
-use Rattle.std.specs.Prelude.{◌≡◌, ℕ, List, [], ◌∷◌, take, Option, Some, None, slice_get}
+use Rattle.std.specs.Prelude.{◌≡◌, ℕ, List, [], ◌∷◌, map, take, Option, Some, None, slice_get}
 use Rattle.std.specs.Borrow.{Bor}
-use Rattle.ck_base.specs.Numbered.{Interns}
+use Rattle.ck_base.specs.Numbered.{met, number_of}
 use Rattle.ck_base.specs.declared.fault.Kind.TheVariants.{Section, Syntax}
 use Rattle.ck_base.specs.declared.fault.SpecFault.{SpecFault}
 use Rattle.ck_base.specs.declared.fault.SpecFault.TheVariants.{Bad, NoMemory}
+use Rattle.rex_model.specs.RuleMeaning.{rule_of}
 use Rattle.rex_model.specs.declared.rules.ScanRule.{ScanRule}
 use Rattle.ck_tool.specs.NumberedLines.{NumberedLine}
 use Rattle.ck_tool.specs.RuleShape.{Declaration, DeclaresOne, HasNoShape}
-use Rattle.ck_tool.specs.Declares.{RuleLines, FirstWithoutShape, Fault, IsRule, AreRules, Met}
+use Rattle.ck_tool.specs.Declares.{RuleLines, FirstWithoutShape, Fault, token_names, rule_in}
 use Rattle.ck_tool.specs.Sections.{IsEnd, NoneIsEnd, SectionFault}
 
--- the number of a token's name, which is numbered where it is new
+-- the number of a token's name, which is met
 abbrev pub IsNumber : List (List ℕ) → List (List ℕ) → Option (Bor (List ℕ)) → Option ℕ → Type 0
 IsNumber old new None None = new ≡ old
 IsNumber old new None (Some n) = ⊥
 IsNumber old new (Some name) None = ⊥
-IsNumber old new (Some name) (Some n) = Interns old new name.now n
+IsNumber old new (Some name) (Some n) =
+    (new ≡ met old (name.now ∷ [])) × (number_of new name.now ≡ Some n)
 
--- the line declares the rule, and the token's name is met
+-- the line declares the rule, whatever names are met later, and its token's name is met
 pub record DeclaresRule (line : List ℕ) (old new : List (List ℕ)) (rule : ScanRule) : Type 0 where
   pub declared : Declaration
   pub by_line : DeclaresOne line declared
-  pub met : Met old (declared ∷ []) new
-  pub is_rule : IsRule new declared rule
+  pub names : new ≡ met old (token_names (declared ∷ []))
+  pub is_rule : (later : List (List ℕ)) → rule_of rule ≡ rule_in (met new later) declared
 
--- the lines declare the rules, and the names are those that are met
+-- the lines declare the rules, whatever names are met later, and the names are those that are met
 pub record AreRulesOf (lines : List NumberedLine) (names : List (List ℕ)) (rules : List ScanRule) : Type 0 where
   pub declared : List Declaration
   pub by_lines : RuleLines lines declared
-  pub met : Met [] declared names
-  pub are_rules : AreRules names declared rules
+  pub tokens : names ≡ met [] (token_names declared)
+  pub are_rules : (later : List (List ℕ)) → map rule_of rules ≡ map (rule_in (met names later)) declared
 
 -- the first line that is END stands at this place
 pub record IsFirstEnd (lines : List NumberedLine) (place : ℕ) : Type 0 where

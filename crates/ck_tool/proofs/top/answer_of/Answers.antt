@@ -1,9 +1,10 @@
 -- Each step gives the answer, or the next one its input.
 use Rattle.std.proofs.Common.{refl}
+use Rattle.rex_model.specs.RuleMeaning.{rules_of}
 use Rattle.ck_tool.specs.Accepts.{Accepts}
 use Rattle.ck_tool.specs.Wanted.{ReadFailed, Wanted}
 use Rattle.ck_tool.proofs.AnswerOfRun.{rose_before, reads_spec, reads_source, stop_at_spec, stop_at_fault, stop_at_source, answer_of_stage, answer_of_stop, fault_of_stop}
-use Rattle.ck_tool.proofs.ScannedRules.{are_plain, have_names}
+use Rattle.ck_tool.proofs.ScannedRules.{have_names}
 use Rattle.ck_tool.proofs.top.answer_of.Goals as goal
 
 pub returns-in_err-spec-clause-answer : goal.returns-in_err-spec-clause-answer
@@ -36,7 +37,7 @@ returns-in_err-source-clause-answer g c = λ words asked.
     let files = g.F.Files in
     let told = files.contents c.args.files.now in
     let name = c.args.command.source.now in
-    let accepts : Accepts c.in_ok-spec.spec.items c.in_ok-rules.rules = record {
+    let accepts : Accepts c.in_ok-spec.spec.items (rules_of c.in_ok-rules.rules) = record {
       fits = c.in_ok-spec.ensures.within;
       declares = rw c.as_slice.ensures.value at c.in_ok-rules.ensures.declared;
     } in
@@ -55,7 +56,7 @@ returns-in_err-source-clause-fault g c = λ words asked.
     let files = g.F.Files in
     let told = files.contents c.args.files.now in
     let name = c.args.command.source.now in
-    let accepts : Accepts c.in_ok-spec.spec.items c.in_ok-rules.rules = record {
+    let accepts : Accepts c.in_ok-spec.spec.items (rules_of c.in_ok-rules.rules) = record {
       fits = c.in_ok-spec.ensures.within;
       declares = rw c.as_slice.ensures.value at c.in_ok-rules.ensures.declared;
     } in
@@ -69,16 +70,13 @@ returns-in_err-source-clause-fault g c = λ words asked.
       rose_before _ _ _ (c.in_ok-spec.ensures.later name) rose,
     )) stop)
 
-pub make-requires-clause-plain : goal.make-requires-clause-plain
-make-requires-clause-plain g c = are_plain _ _ _ c.in_ok-rules.ensures.declared.are_rules
-
 pub make-requires-clause-named : goal.make-requires-clause-named
-make-requires-clause-named g c = have_names _ _ _ c.in_ok-rules.ensures.declared.are_rules
+make-requires-clause-named g c = have_names _ c.in_ok-rules.rules c.in_ok-rules.ensures.declared
 
 pub returns-clause-answer : goal.returns-clause-answer
 returns-clause-answer g c = λ words asked.
     let told = g.F.Files.contents c.args.files.now in
-    let accepts : Accepts c.in_ok-spec.spec.items c.in_ok-rules.rules = record {
+    let accepts : Accepts c.in_ok-spec.spec.items (rules_of c.in_ok-rules.rules) = record {
       fits = c.in_ok-spec.ensures.within;
       declares = rw c.as_slice.ensures.value at c.in_ok-rules.ensures.declared;
     } in
