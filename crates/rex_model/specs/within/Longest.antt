@@ -1,9 +1,6 @@
--- The longest word that a text begins with, and the longest text of a rule.
+-- The longest word that a text begins with.
 use Rattle.std.specs.Prelude.{ℕ, ◌<◌, ◌≤◌, List, length, take, Option, Some, None}
-use Rattle.ck_base.specs.BitSet.{Has}
 use Rattle.rex_model.specs.Language.{Re, Language}
-use Rattle.rex_model.specs.Meaning.{meaning}
-use Rattle.rex_model.specs.declared.rules.ScanRule.{ScanRule}
 
 -- the first n bytes of the text are a word and not empty, and no more of them are a word
 pub record IsLongestWord (r : Re) (text : List ℕ) (n : ℕ) : Type 0 where
@@ -16,12 +13,13 @@ pub record IsLongestWord (r : Re) (text : List ℕ) (n : ℕ) : Type 0 where
 abbrev pub HasNoWord : Re → List ℕ → Type 0
 HasNoWord r text = (m : ℕ) → 0 < m → m ≤ length text → Language r (take m text) → ⊥
 
--- how many bytes the longest word has; None where there is none
+-- how many bytes the longest word has, the empty word apart; None where there is none
 abbrev pub IsLongest : Re → List ℕ → Option ℕ → Type 0
 IsLongest r text None = HasNoWord r text
 IsLongest r text (Some n) = IsLongestWord r text n
 
--- how many bytes the longest text of the rule has; None where there is none, or the rule isn't active
-abbrev pub IsLongestOfRule : ScanRule → ℕ → List ℕ → Option ℕ → Type 0
-IsLongestOfRule rule state rest None = Has rule.states state → HasNoWord (meaning rule.body.now) rest
-IsLongestOfRule rule state rest (Some n) = Has rule.states state × IsLongestWord (meaning rule.body.now) rest n
+-- how many bytes the longest word has, the empty word among them; None where there is none
+abbrev pub IsLongestOrEmpty : Re → List ℕ → Option ℕ → Type 0
+IsLongestOrEmpty r text None = (n : ℕ) → n ≤ length text → Language r (take n text) → ⊥
+IsLongestOrEmpty r text (Some n) =
+    (n ≤ length text) × Language r (take n text) × ((m : ℕ) → m ≤ length text → Language r (take m text) → m ≤ n)
