@@ -1,0 +1,28 @@
+mod OneClass
+mod ClassSets
+mod Forms
+mod OneReading
+mod Begin
+mod BeginClass
+mod Characters
+mod Texts
+mod Meant
+mod Values
+mod TokensSoFar
+mod FirstLine
+mod LinesSoFar
+mod SectionLines
+pub mod Readings
+pub mod One
+pub mod PassedOn
+pub mod Lists
+pub mod Views
+mod OneFile
+mod OneSections
+mod Spelled
+pub mod Names
+pub mod OneFault
+pub mod Frame
+pub mod Numbers
+pub mod Parting
+mod Examples

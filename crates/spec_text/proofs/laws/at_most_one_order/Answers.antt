@@ -1,0 +1,6 @@
+-- By both derivations at once.
+use Rattle.spec_text.proofs.OneSections.{one_order}
+use Rattle.spec_text.proofs.laws.at_most_one_order.Goals as goal
+
+pub returns : goal.returns
+returns c = one_order

@@ -1,0 +1,17 @@
+pub mod Bytes
+pub mod Escapes
+pub mod Classes
+pub mod Lexemes
+pub mod Reading
+pub mod TextLines
+pub mod Lines
+pub mod Spans
+pub mod Sections
+pub mod Promise
+pub mod Seen
+pub mod Parts
+pub mod FirstFault
+pub mod Declares
+pub mod Laws
+pub mod Steps
+pub mod SectionSteps

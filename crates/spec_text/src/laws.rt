@@ -1,0 +1,31 @@
+ghost use Rattle.spec_text.specs.Laws.{OneBegin, OneFile, OneOrder, OneReading, OneSection, OneSectionFault};
+
+/// Law: a line begins with one token at most.
+pub fn one_token_begins()
+    ensures { OneBegin }
+{}
+
+/// Law: a line has one reading at most.
+pub fn at_most_one_reading()
+    ensures { OneReading }
+{}
+
+/// Law: a file has its lines in one way.
+pub fn at_most_one_file()
+    ensures { OneFile }
+{}
+
+/// Law: a file has its sections in one way at most.
+pub fn at_most_one_order()
+    ensures { OneOrder }
+{}
+
+/// Law: a file has each section once at most.
+pub fn at_most_one_section()
+    ensures { OneSection }
+{}
+
+/// Law: a file has one section fault at most, and none beside its sections.
+pub fn at_most_one_section_fault()
+    ensures { OneSectionFault }
+{}
