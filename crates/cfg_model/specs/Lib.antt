@@ -1,0 +1,10 @@
+pub mod Cfg
+pub mod Derivation
+pub mod LlConflicts
+pub mod LlTables
+pub mod Rows
+pub mod Searches
+pub mod Sets
+pub mod Steps
+pub mod Table
+pub mod within

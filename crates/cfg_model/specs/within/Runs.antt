@@ -1,0 +1,31 @@
+-- Rows of what leads to a number, and what can be met first.
+use Rattle.std.specs.Prelude.{ℕ, List}
+use Rattle.ck_base.specs.BitSet.{BitSet}
+use Rattle.cfg_model.specs.declared.symbol.Sym.TheVariants.{N}
+use Rattle.cfg_model.specs.declared.rows.Edge.{Edge}
+use Rattle.cfg_model.specs.Cfg.{Cfg}
+use Rattle.cfg_model.specs.Searches.{LeftRecursive}
+use Rattle.cfg_model.specs.Rows.{In, AreRows}
+use Rattle.cfg_model.specs.within.Spreading.{IsEdge, AreSpread}
+use Rattle.cfg_model.specs.within.Parts.{LeftPart}
+
+-- one edge leads from m to n exactly where m is in row n
+pub record AreEdgeRows (count : ℕ) (edges : List Edge) (rows : List BitSet) : Type 0 where
+  pub are : AreRows count count rows
+  pub only : (n m : ℕ) → In rows n m → IsEdge edges m n
+  pub all : (n m : ℕ) → IsEdge edges m n → In rows n m
+
+-- the rows spread from there
+pub record AreRuns (count : ℕ) (edges : List Edge) (rows : List BitSet) : Type 0 where
+  pub are : AreRows count count rows
+  pub base : List BitSet
+  pub base_are : AreEdgeRows count edges base
+  pub spread_are : AreSpread edges base rows
+
+-- m is in row n exactly where m can be met first from n; as far as other crates need it
+pub record AreMet (g : Cfg) (null : BitSet) (rows : List BitSet) : Type 0 where
+  pub are : AreRows g.nonterminals g.nonterminals rows
+  pub part : (n m : ℕ) → LeftPart g null n (N m) → In rows n m
+  pub down : (n m t : ℕ) → LeftPart g null n (N m) → In rows m t → In rows n t
+  pub recursive : (n : ℕ) → In rows n n → LeftRecursive g n
+  pub all : (n : ℕ) → LeftRecursive g n → In rows n n
