@@ -1,5 +1,6 @@
 pub mod Cfg
 pub mod Derivation
+pub mod LeftRanks
 pub mod LlConflicts
 pub mod LlTables
 pub mod Rows
