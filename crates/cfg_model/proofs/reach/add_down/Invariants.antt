@@ -1,0 +1,10 @@
+-- The end of the right side has given its edges.
+use Rattle.std.proofs.Common.{◌≤◌, drop, length}
+use Rattle.cfg_model.specs.within.Gather.{Gathers, IsDown}
+use Rattle.cfg_model.proofs.reach.add_down.Given as goal
+
+abbrev pub invariant-loop-i : goal.invariant-loop-i
+invariant-loop-i l = record { fits : l.i ≤ length l.right; edges : Gathers l.fn.edges.items l.edges.items (IsDown l.left (drop l.i l.right)) }
+
+abbrev pub decreases-loop-i : goal.decreases-loop-i
+decreases-loop-i l = l.i

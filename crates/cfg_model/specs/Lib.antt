@@ -1,0 +1,11 @@
+pub mod Cfg
+pub mod Derivation
+pub mod LeftRanks
+pub mod LlConflicts
+pub mod LlTables
+pub mod Rows
+pub mod Searches
+pub mod Sets
+pub mod Steps
+pub mod Table
+pub mod within

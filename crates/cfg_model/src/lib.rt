@@ -1,0 +1,52 @@
+//! Grammars, the sets of a grammar, and what the tables of parsers are.
+//!
+//! | what | file |
+//! |---|---|
+//! | grammars; a grammar with its names | `src/symbol.rt`, `src/grammar.rt`, `src/named.rt`; `specs/Cfg.antt` |
+//! | derivations, sentences, what can still become one; derive steps | `specs/Derivation.antt`, `specs/Steps.antt` |
+//! | nullable, productive, reachable, FIRST, FOLLOW | `specs/Sets.antt`; sets as answers: `specs/Rows.antt` |
+//! | cyclic, hidden left recursive, left recursive; the least one | `specs/Searches.antt` |
+//! | LL(1) conflicts; LL tables | `specs/LlConflicts.antt`; `src/ll_table.rt`, `specs/LlTables.antt` |
+//! | LR tables; why a grammar has none | `src/table.rt`, `src/action.rt`; `src/refused.rt` |
+#![tactic(auto)]
+
+mod action;
+mod begins;
+mod closing;
+mod copying;
+mod counting;
+mod first_sets;
+mod follow_sets;
+mod grammar;
+mod hiding;
+mod least;
+mod left_ranks;
+mod ll_table;
+mod looping;
+mod met;
+mod named;
+mod parts;
+mod reach;
+mod refused;
+mod rows;
+mod symbol;
+mod table;
+
+pub use action::LrAction;
+pub use begins::add_first;
+pub use closing::{nullable, productive};
+pub use copying::copy_grammar;
+pub use first_sets::first;
+pub use follow_sets::follow;
+pub use grammar::{Grammar, GrammarRule};
+pub use hiding::hidden_left;
+pub use least::unproductive;
+pub use left_ranks::{LeftRanks, ranks};
+pub use ll_table::LlTable;
+pub use looping::cyclic;
+pub use met::left_recursive;
+pub use named::NamedGrammar;
+pub use reach::reachable;
+pub use refused::LalrError;
+pub use symbol::Sym;
+pub use table::LrTable;
