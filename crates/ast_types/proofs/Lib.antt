@@ -1,0 +1,4 @@
+pub mod Climbing
+pub mod Counts
+mod Examples
+pub mod TypeAdded

@@ -1,0 +1,9 @@
+pub mod Applies
+pub mod Evaluates
+pub mod Meanings
+pub mod OneType
+pub mod PlainParts
+pub mod PlainValues
+mod TypeExamples
+mod ValueExamples
+pub mod ValueTyped

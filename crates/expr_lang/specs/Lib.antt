@@ -1,0 +1,12 @@
+pub mod Evaluated
+pub mod Expression
+pub mod Meaning
+pub mod OfType
+pub mod Plain
+pub mod PureOf
+pub mod PureTypes
+pub mod PureValues
+pub mod Typing
+pub mod Units
+pub mod ValueOf
+pub mod ValueParts

@@ -1,0 +1,6 @@
+pub mod CellsStay
+mod Examples
+pub mod NodeMade
+pub mod PairAdded
+pub mod PairFound
+pub mod PartsStand

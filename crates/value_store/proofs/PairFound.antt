@@ -1,0 +1,28 @@
+-- The pairs of a map, one after the other from the newest on.
+use Rattle.std.proofs.Common.{◌≡◌, ℕ, List, [], length, Some, refl, ap, arith, true, false}
+use Rattle.std.specs.Str.{bytes_eq}
+use Rattle.value_store.specs.Texts.{text_of}
+use Rattle.value_store.specs.Maps.{entries, first_with}
+use Rattle.value_store.specs.Cells.{Cell, pairs_at, pairs_in, cells_of}
+use Rattle.value_store.specs.UnitFacts.{SaysEntry}
+use Rattle.value_store.specs.declared.unit.MapUnit.{MapUnit}
+use Rattle.value_store.specs.declared.unit.StoreUnit.{StoreUnit}
+use Rattle.value_store.proofs.CellsStay.{first_cell}
+
+-- the size of a map, by its unit
+pub size_of_map : (ts : List Cell) (m : ℕ) (u : MapUnit) → SaysEntry ts m u → u.size ≡ length (pairs_at ts m)
+size_of_map ts m u says = rw (ap pairs_in says.is) omega (arith, says.counted)
+
+-- the map of no pairs
+pub no_pairs : (us : List StoreUnit) → pairs_at (cells_of us) 0 ≡ []
+no_pairs us = ap pairs_in (first_cell us)
+
+-- the pairs from one on
+pub find_here : (source literals wanted : List ℕ) (ts : List Cell) (m : ℕ) (u : MapUnit) → SaysEntry ts m u
+    → bytes_eq (text_of source literals u.key) wanted ≡ true → first_with wanted (entries source literals (pairs_at ts m)) ≡ Some u.number
+find_here source literals wanted ts m u says same = rw (ap pairs_in says.is, same) refl
+
+pub find_older : (source literals wanted : List ℕ) (ts : List Cell) (m : ℕ) (u : MapUnit) → SaysEntry ts m u
+    → bytes_eq (text_of source literals u.key) wanted ≡ false
+    → first_with wanted (entries source literals (pairs_at ts m)) ≡ first_with wanted (entries source literals (pairs_at ts u.older))
+find_older source literals wanted ts m u says differ = rw (ap pairs_in says.is, differ) refl
