@@ -11,7 +11,7 @@ use Rattle.std.proofs.Math.Path.{fun_ext}
 use Rattle.rex_model.specs.Language.{IsIn}
 use Rattle.rex_model.specs.Meaning.{set_of}
 use Rattle.ck_tool.specs.LineTokens.{Span, Spans, no_spans, single, range, set_of_spans, is_class_byte, is_between}
-use Rattle.ck_tool.specs.Begins.{IsSpan, BeginsSpans, HasNoRange, HasNoSpans, AddsSpan, IsSetOf, IsNoClass}
+use Rattle.ck_tool.specs.within.Begins.{IsSpan, BeginsSpans, HasNoRange, HasNoSpans, AddsSpan, IsSetOf, IsNoClass}
 use Rattle.ck_tool.proofs.OneLexing.{no_dash}
 
 -- a character of a class is a line's byte

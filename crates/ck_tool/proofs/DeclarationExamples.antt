@@ -4,7 +4,7 @@ use Rattle.std.specs.List.{list_any}
 use Rattle.ck_base.specs.declared.fault.Kind.TheVariants.{Section, Syntax}
 use Rattle.rex_model.specs.Language.{Re, bytes, star, plus}
 use Rattle.rex_model.specs.Meaning.{sequence_of}
-use Rattle.ck_tool.specs.Declares.{Declares, Fault, of_sections, of_shape, no_lines, one_more, Met, no_more, known, added}
+use Rattle.ck_tool.specs.Declares.{Declares, Fault, of_sections, of_shape, no_lines, one_more, declared_rules}
 use Rattle.ck_tool.specs.LineTokens.{Span, Spans, single, range, set_of_spans, IsClass, has_tokens, Lexeme, word, string, sign, LineTokens, no_tokens, blank, a_token, a_word, a_text, a_sign}
 use Rattle.ck_tool.specs.RuleShape.{starred, Declaration, Atom, Pieces, no_pieces, once, plussed, a_string, is_unstarred, RuleShape, DeclaresOne, HasNoShape}
 use Rattle.ck_tool.specs.Sections.{IsEnd, nothing, not_rex, no_end, after_end}
@@ -215,7 +215,5 @@ abbrev token_a : Declaration
 token_a = record { body = bytes (codes "a"); token = Some (codes "A") }
 
 -- two rules of one token number its name once
-one_number : Met [] (token_a ∷ token_a ∷ []) (codes "A" ∷ [])
-one_number =
-    added [] _ (codes "A") token_a _ refl (λ there. omega (arith, there.1))
-    (known (codes "A" ∷ []) _ (codes "A") token_a [] refl (0, omega arith, refl) (no_more (codes "A" ∷ [])))
+one_number : (declared_rules (token_a ∷ token_a ∷ [])).tokens ≡ codes "A" ∷ []
+one_number = refl

@@ -1,14 +1,14 @@
 -- Words, printed tokens and the tokens of a text, tried on cases that are worked by hand.
-use Rattle.std.proofs.Common.{◌≡◌, [], ◌∷◌, ◌++◌, Some, None, codes, refl, arith}
+use Rattle.std.proofs.Common.{◌≡◌, ◌==◌, [], ◌∷◌, ◌++◌, Some, None, codes, refl, arith}
 use Rattle.std.specs.Fmt.{digits}
-use Rattle.ck_base.specs.BitSet.{Has}
-use Rattle.rex_model.specs.Language.{bytes}
-use Rattle.rex_model.specs.Meaning.{meaning}
-use Rattle.rex_model.specs.Run.{Tokens, finished}
-use Rattle.rex_model.specs.Winner.{Candidate, Winner}
-use Rattle.rex_model.specs.declared.rules.ScanRule.{ScanRule}
+use Rattle.rex_model.specs.Language.{bytes, class, plus}
+use Rattle.rex_model.specs.Run.{Tokens as TokensOf, finished}
+use Rattle.rex_model.specs.Winner.{Winner}
+use Rattle.rex_model.specs.Rules.{Rule}
+use Rattle.ck_tool.specs.LineTokens.{is_between}
 use Rattle.ck_tool.specs.TokenText.{quoted, token_line, tokens_text}
-use Rattle.ck_tool.specs.Words.{AreRight}
+use Rattle.ck_tool.specs.Words.{AreRight, of_stage}
+use Rattle.ck_tool.specs.declared.stage.Stage.TheVariants.{Tokens}
 
 -- `a"\` and the bytes 0x01 and 0xff are printed `"a\"\\\x01\xff"`
 quoted_bytes : quoted (97 ∷ 34 ∷ 92 ∷ 1 ∷ 255 ∷ [])
@@ -32,52 +32,56 @@ only_end = refl
 
 -- the words `tokens s x` are right
 right_words : AreRight (codes "tokens" ∷ codes "s" ∷ codes "x" ∷ [])
-right_words = (codes "s", codes "x", record { words_are = refl; is_spec = λ e. cc; is_source = λ e. cc })
+right_words = of_stage Tokens (codes "s") (codes "x") (record { words_are = refl; is_spec = λ e. cc; is_source = λ e. cc })
 
 -- `tokens -s x` aren't: no name begins with `-`
 dash : AreRight (codes "tokens" ∷ codes "-s" ∷ codes "x" ∷ []) → ⊥
-dash (spec, source, are) =
+dash (of_stage stage spec source are) =
+    let words = are.words_are in
     let is : spec ≡ codes "-s" = cc in
     let name = rw is at are.is_spec in
     name refl
 
 -- nor are `tokens s`: one name is missing
 one_name : AreRight (codes "tokens" ∷ codes "s" ∷ []) → ⊥
-one_name (spec, source, are) = cc
+one_name (of_stage stage spec source are) = let words = are.words_are in cc
 
 -- nor are `tokens`, the empty word and `x`: no name is empty
 empty_name : AreRight (codes "tokens" ∷ [] ∷ codes "x" ∷ []) → ⊥
-empty_name (spec, source, are) =
+empty_name (of_stage stage spec source are) =
+    let words = are.words_are in
     let is : spec ≡ [] = cc in
     rw is at are.is_spec
 
 -- nor are `run s x`: this is another command
 other_command : AreRight (codes "run" ∷ codes "s" ∷ codes "x" ∷ []) → ⊥
-other_command (spec, source, are) = cc
+other_command (of_stage Tokens spec source are) = let words = are.words_are in cc
 
--- "if" is a candidate of a rule for "if"
-if_candidate : (keyword other : ScanRule) → Has keyword.states 0 → meaning keyword.body.now ≡ bytes (codes "if") → keyword.context ≡ None
-    → Candidate (keyword ∷ other ∷ []) 0 (codes "if") 0 2 2
-if_candidate keyword other active body context = record {
-  rule = keyword;
-  is_rule = refl;
-  active = active;
-  some = omega arith;
-  fits = omega arith;
-  within = omega arith;
-  body = rw body refl;
-  context = rw context refl;
+-- rules for "if" and for words, whose tokens have the numbers 7 and 8
+abbrev keyword : Rule
+keyword = record { active = λ state. state == 0; body = bytes (codes "if"); context = None; token = Some 7; next = None }
+
+abbrev word_rule : Rule
+word_rule = record { active = λ state. state == 0; body = plus (class (λ byte. is_between 97 122 byte)); context = None; token = Some 8; next = None }
+
+-- the text "if" is one token of the first
+if_wins : Winner (keyword ∷ word_rule ∷ []) 0 (codes "if") 0 2 2
+if_wins = record {
+  candidate = record {
+    rule = keyword;
+    is_rule = refl;
+    active = refl;
+    some = omega arith;
+    fits = omega arith;
+    within = omega arith;
+    body = refl;
+    context = refl;
+  };
+  longest = λ j k l candidate. candidate.within;
+  first = λ j k candidate. omega arith;
+  greatest = λ k candidate. candidate.fits;
 }
 
--- whatever the second rule is, the text "if" is one token of the first
-one_token : (keyword other : ScanRule) → Has keyword.states 0 → meaning keyword.body.now ≡ bytes (codes "if") → keyword.context ≡ None
-    → keyword.token ≡ Some 7 → Tokens (keyword ∷ other ∷ []) (codes "if") 0 0 (record { number = 7; from = 0; to = 2 } ∷ []) finished
-unfolding if_candidate
-one_token keyword other active body context number =
-    let won : Winner (keyword ∷ other ∷ []) 0 (codes "if") 0 2 2 = record {
-      candidate = if_candidate keyword other active body context;
-      longest = λ j k l candidate. candidate.within;
-      first = λ j k candidate. omega arith;
-      greatest = λ k candidate. candidate.fits;
-    } in
-    Tokens.token 0 0 0 2 2 7 [] finished won number (Tokens.end _ 2 refl)
+one_token : TokensOf (keyword ∷ word_rule ∷ []) (codes "if") 0 0 (record { number = 7; from = 0; to = 2 } ∷ []) finished
+unfolding if_wins
+one_token = TokensOf.token 0 0 0 2 2 7 [] finished if_wins refl (TokensOf.end _ 2 refl)

@@ -1,4 +1,4 @@
-mod AnswerOfTokens
+mod AnswerOfRun
 mod ClassSpans
 mod DeclarationExamples
 mod Ends
@@ -16,7 +16,6 @@ mod PiecesSoFar
 mod PrintedLine
 mod RuleParts
 mod RulesSoFar
-mod SameScanRules
 mod ScannedRules
 mod SectionsOfLines
 mod ThreeWords

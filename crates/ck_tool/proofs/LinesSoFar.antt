@@ -2,7 +2,7 @@
 use Rattle.std.proofs.Common.{◌≡◌, ℕ, ◌+◌, ◌≤◌, List, ◌++◌, length, map}
 use Rattle.std.specs.Str.Lines.{lines}
 use Rattle.ck_tool.specs.NumberedLines.{numbered}
-use Rattle.ck_tool.specs.Seen.{line_of}
+use Rattle.ck_tool.specs.within.Seen.{line_of}
 use Rattle.ck_tool.specs.declared.line.SpecLine.{SpecLine}
 
 -- the lines found and those of the rest are all lines

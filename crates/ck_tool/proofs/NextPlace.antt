@@ -5,7 +5,7 @@ use Rattle.std.proofs.lemmas.List.Sums.{count_by-le-length, count_by_more_yes, c
 use Rattle.std.proofs.lemmas.Option.{slice_get_within, get_or_from_slice_get}
 use Rattle.std.proofs.lemmas.Bool.{ne_eqb}
 use Rattle.rex_model.specs.Place.{line_at, column_at}
-use Rattle.ck_tool.specs.Places.{IsPlace}
+use Rattle.ck_tool.specs.within.Places.{IsPlace}
 use Rattle.ck_tool.specs.declared.place.Place.{Place}
 
 -- the column after a byte, by the byte before the place

@@ -6,7 +6,7 @@ use Rattle.rex_model.specs.Language.{Re}
 use Rattle.rex_model.specs.Meaning.{sequence_of}
 use Rattle.ck_tool.specs.LineTokens.{Lexeme, word, sign, LineTokens}
 use Rattle.ck_tool.specs.RuleShape.{Atom, a_string, a_class, Pieces, no_pieces, once, starred, plussed, Declaration, ending, RuleShape, DeclaresOne, HasNoShape}
-use Rattle.ck_tool.specs.Shapes.{DeclareNothing}
+use Rattle.ck_tool.specs.within.Shapes.{DeclareNothing}
 use Rattle.ck_tool.proofs.OneLexing.{one_lexing}
 
 -- a token is one atom

@@ -1,6 +1,5 @@
--- The answer of a run and the names that it reads, tried on cases that are worked by hand.
-use Rattle.std.proofs.Common.{◌≡◌, ◌⊎◌, inl, inr, ℕ, List, [], ◌∷◌, ◌++◌, length, Option, Some, None, codes, refl, arith, take, length-take, ap}
-use Rattle.std.specs.Prelude.{slice_get}
+-- The answer of a run, the names that it reads and how it ends, tried on cases that are worked by hand.
+use Rattle.std.proofs.Common.{◌≡◌, ◌⊎◌, inl, inr, ℕ, List, [], ◌∷◌, ◌++◌, length, Option, Some, codes, refl, arith, take, length-take, ap}
 use Rattle.std.specs.Fmt.{digits}
 use Rattle.ck_base.specs.declared.fault.Kind.TheVariants.{Section}
 use Rattle.ck_base.specs.Lines.{status_of}
@@ -8,83 +7,52 @@ use Rattle.ck_base.specs.declared.refusal.Refusal.{Refusal}
 use Rattle.ck_base.specs.declared.refusal.Refusal.TheVariants as refusal
 use Rattle.ck_base.specs.declared.status.Status.{Status}
 use Rattle.ck_base.specs.declared.status.Status.TheVariants as status
-use Rattle.ck_io.specs.Contents.{IsTold}
 use Rattle.rex_model.specs.Run.{Tokens}
-use Rattle.rex_model.specs.declared.rules.ScanRules.{ScanRules}
-use Rattle.ck_tool.specs.Declares.{no_rules, no_more}
-use Rattle.ck_tool.specs.Outcome.{Outcome, Sunk, Kept, Failed, Gained, GainedPart, Answers, UsageExactly, Ran, done, refusing, memory, reading, writing, refusal_cut, memory_cut, ended, output, refused, RefusesSpec, too_long, faulty, Accepts, bad_token, printed, by_spec, by_source, Wanted, wrong_words, tokens, reads_spec, reads_source, Reads}
-use Rattle.ck_tool.specs.Words.{AreTokens, AreRight}
+use Rattle.ck_tool.specs.Accepts.{RefusesSpec, too_long, faulty, Accepts}
+use Rattle.ck_tool.specs.Declares.{declared_rules}
+use Rattle.ck_tool.specs.Outcome.{Outcome, output, refused, bad_token, printed, makes}
+use Rattle.ck_tool.specs.Ran.{Sunk, Kept, FaultsRose, Gained, GainedPart, Answers, UsageExactly, told, cut, Ran, done, refusing, memory, reading, writing, ended}
+use Rattle.ck_tool.specs.Wanted.{by_words, no_files, Wanted}
+use Rattle.ck_tool.specs.Words.{AreOfStage, AreRight, of_stage}
+use Rattle.ck_tool.specs.declared.stage.Stage.TheVariants.{Tokens as of_tokens}
+use Rattle.ck_tool.proofs.AnswerOfRun.{wanted_of_spec, wanted_of_source}
 use Rattle.ck_tool.proofs.DeclarationExamples.{no_rule, declares_nothing, empty_spec}
-use Rattle.ck_tool.proofs.OneFault.{no_fault}
 
 -- the words `tokens s x`
-abbrev pub words : List (List ℕ)
+pub words : List (List ℕ)
 words = codes "tokens" ∷ codes "s" ∷ codes "x" ∷ []
 
-are_tokens : AreTokens words (codes "s") (codes "x")
+are_tokens : AreOfStage words of_tokens (codes "s") (codes "x")
+unfolding words
 are_tokens = record { words_are = refl; is_spec = λ e. cc; is_source = λ e. cc }
 
 -- two words are wrong, and Usage is the answer
 one_file : (contents : List ℕ → Option (List ℕ)) → Wanted contents (codes "tokens" ∷ codes "s" ∷ []) (refused refusal.Usage)
-one_file contents = wrong_words wrong
+one_file contents = record { names = []; others = codes "s" ∷ []; files = []; named = refl; hold = no_files; settles = by_words wrong }
   where
     wrong : AreRight (codes "tokens" ∷ codes "s" ∷ []) → ⊥
-    wrong (spec, source, are) = let is = are.words_are in cc
+    wrong (of_stage stage spec source are) = let is = are.words_are in cc
 
--- rules that the specification without rules declares
-abbrev AreNone : ScanRules → Type 0
-AreNone rules = (rules.states ≡ codes "STD" ∷ []) × (rules.tokens ≡ []) × (rules.rules.items ≡ [])
-
-accepts_none : (rules : ScanRules) → AreNone rules → Accepts no_rule rules
-accepts_none rules (states, names, items) = record {
-  fits = omega arith;
-  declares = record {
-    declared = [];
-    by_lines = declares_nothing;
-    states = states;
-    tokens = rw names (no_more []);
-    are_rules = rw items no_rules;
-  };
-}
+-- a specification without rules is accepted
+accepts_none : Accepts no_rule (declared_rules [])
+accepts_none = record { fits = omega arith; declares = record { declared = []; by_lines = declares_nothing; are_rules = refl } }
 
 module _ (contents : List ℕ → Option (List ℕ)) where
   -- no rules and an empty source: `1:1 END` is printed
-  wants_end : (rules : ScanRules) → AreNone rules → contents (codes "s") ≡ Some no_rule → contents (codes "x") ≡ Some []
-      → Wanted contents words (output (codes "1:1 END" ++ 10 ∷ []))
+  wants_end : contents (codes "s") ≡ Some no_rule → contents (codes "x") ≡ Some [] → Wanted contents words (output (codes "1:1 END" ++ 10 ∷ []))
   unfolding digits
-  wants_end rules none spec source = tokens (codes "s") (codes "x") _ are_tokens (by_source no_rule [] rules _ (rw spec refl)
-      (accepts_none rules none) (rw source refl) (printed (omega arith) [] (Tokens.end 0 0 refl)))
+  wants_end spec source = wanted_of_source contents words of_tokens _ _ are_tokens no_rule _ (rw spec refl) accepts_none [] _ (rw source refl)
+      (makes _ (omega arith) (printed [] (Tokens.end 0 0 refl)))
 
   -- no rules and any byte: its place is bad
-  wants_bad_token : (rules : ScanRules) → AreNone rules → contents (codes "s") ≡ Some no_rule → contents (codes "x") ≡ Some (codes "a")
+  wants_bad_token : contents (codes "s") ≡ Some no_rule → contents (codes "x") ≡ Some (codes "a")
       → Wanted contents words (refused (refusal.BadToken 1 1))
-  wants_bad_token rules none spec source = tokens (codes "s") (codes "x") _ are_tokens (by_source no_rule (codes "a") rules _ (rw spec refl)
-      (accepts_none rules none) (rw source refl) (bad_token (omega arith) [] 0 (Tokens.bad 0 0 (omega arith) (λ i n m c.
-      let is = c.is_rule in
-      let nowhere : slice_get [] i ≡ Some c.rule = rw none.2 at is in
-      cc))))
+  wants_bad_token spec source = wanted_of_source contents words of_tokens _ _ are_tokens no_rule _ (rw spec refl) accepts_none (codes "a") _
+      (rw source refl) (makes _ (omega arith) (bad_token [] 0 (Tokens.bad 0 0 (omega arith) (λ i n m c. let is = c.is_rule in cc))))
 
   -- an empty specification is refused for its first line, whatever the source is
   wants_bad_spec : contents (codes "s") ≡ Some [] → Wanted contents words (refused (refusal.BadSpec 1 Section))
-  wants_bad_spec spec = tokens (codes "s") (codes "x") _ are_tokens (by_spec [] _ (rw spec refl) (faulty (omega arith) 1 Section empty_spec))
-
-  -- and the source isn't read then
-  refused_reads_no_source : contents (codes "s") ≡ Some [] → Reads contents words (codes "x") → ⊥
-  refused_reads_no_source told (Reads.tokens spec source are (reads_spec)) =
-      let is = are.words_are in
-      let other : codes "x" ≡ codes "s" = cc in
-      let byte : ◌≡◌ {A = ℕ} 120 115 = cc in
-      omega arith
-  refused_reads_no_source told (Reads.tokens spec source are (reads_source bytes rules is accepts)) =
-      let names = are.words_are in
-      let name : spec ≡ codes "s" = cc in
-      let empty : bytes ≡ [] = told_bytes (contents spec) bytes [] is (rw name told) in
-      let declares = rw empty at accepts.declares.by_lines in
-      no_fault [] accepts.declares.declared 1 Section declares empty_spec
-    where
-      told_bytes : (told : Option (List ℕ)) (bytes others : List ℕ) → IsTold told bytes → told ≡ Some others → bytes ≡ others
-      told_bytes None bytes others is at = cc
-      told_bytes (Some all) bytes others is at = cc
+  wants_bad_spec spec = wanted_of_spec contents words of_tokens _ _ are_tokens [] _ (rw spec refl) (faulty (omega arith) 1 Section empty_spec)
 
 -- a specification with the very last byte that it may have isn't too long
 at_the_limit : (spec : List ℕ) → length spec ≡ 1048576 → RefusesSpec spec refusal.SpecTooLong → ⊥
@@ -107,8 +75,8 @@ told_with_end count took =
     omega (arith, ap length same)
 
 -- a fault from before the run is none of the run
-old_fault : (told : Option (List ℕ)) → Failed (record { old = told; new = told; before = 3; now = 3 }) → ⊥
-old_fault told rose = omega arith
+old_fault : (bytes : Option (List ℕ)) → FaultsRose (record { old = bytes; new = bytes; before = 3; now = 3 }) → ⊥
+old_fault bytes rose = omega arith
 
 -- bytes that were given with a line beside them aren't the answer
 bytes_and_line : (out : Sunk) → Answers (output []) out (record { old = Some []; new = Some (codes "a"); before = 0; now = 0 }) status.Done → ⊥
@@ -118,42 +86,33 @@ bytes_and_line out (is, gained, kept) = cc
 wrong_words_want_none : (words : List (List ℕ)) (err : Sunk) → UsageExactly words err status.Memory → (AreRight words → ⊥) → ⊥
 wrong_words_want_none words err exactly wrong = neither (exactly.always wrong)
   where
-    neither : (status.Memory ≡ status.Usage) ⊎ ((status.Memory ≡ status.Device) × Failed err) → ⊥
+    neither : (status.Memory ≡ status.Usage) ⊎ ((status.Memory ≡ status.Device) × FaultsRose err) → ⊥
     neither (inl is) = cc
     neither (inr (is, failed)) = cc
 
--- no refusal has the status of a run that is done, or of want of memory
+-- no refusal has the status of a run that is done
 refusal_is_not_done : (r : Refusal) → status_of r ≡ status.Done → ⊥
 refusal_is_not_done refusal.Usage is = cc
-refusal_is_not_done refusal.SpecTooLong is = cc
-refusal_is_not_done (refusal.BadSpec line kind) is = cc
-refusal_is_not_done refusal.SourceTooLong is = cc
-refusal_is_not_done (refusal.BadToken line col) is = cc
-
-refusal_is_not_memory : (r : Refusal) → status_of r ≡ status.Memory → ⊥
-refusal_is_not_memory refusal.Usage is = cc
-refusal_is_not_memory refusal.SpecTooLong is = cc
-refusal_is_not_memory (refusal.BadSpec line kind) is = cc
-refusal_is_not_memory refusal.SourceTooLong is = cc
-refusal_is_not_memory (refusal.BadToken line col) is = cc
+refusal_is_not_done _ is = cc
 
 module _ (words : List (List ℕ)) (wants : Outcome → Type 0) (failed : Type 0) (out err : Sunk) where
   -- a run that is done has told no line
   done_tells_nothing : (ends : Status) → Ran words wants failed out err ends → ends ≡ status.Done → Kept err
   done_tells_nothing _ (done bytes wanted gained kept) is = kept
-  done_tells_nothing _ (refusing r wanted kept gained) is = absurd (refusal_is_not_done r is)
-  done_tells_nothing _ (memory right kept gained) is = cc
-  done_tells_nothing _ (reading rose kept line) is = cc
-  done_tells_nothing _ (writing bytes wanted part line) is = cc
-  done_tells_nothing _ (refusal_cut r wanted kept part) is = cc
-  done_tells_nothing _ (memory_cut right kept part) is = cc
+  done_tells_nothing _ (refusing _ r wanted kept (told gained)) is = absurd (refusal_is_not_done r is)
+  done_tells_nothing _ (refusing _ r wanted kept (cut part)) is = cc
+  done_tells_nothing _ (memory _ right kept (told gained)) is = cc
+  done_tells_nothing _ (memory _ right kept (cut part)) is = cc
+  done_tells_nothing _ (reading _ rose kept (told gained)) is = cc
+  done_tells_nothing _ (reading _ rose kept (cut part)) is = cc
+  done_tells_nothing _ (writing _ bytes wanted part (told gained)) is = cc
+  done_tells_nothing _ (writing _ bytes wanted part (cut rest)) is = cc
 
   -- want of memory follows no byte of output
   memory_writes_nothing : (ends : Status) → Ran words wants failed out err ends → ends ≡ status.Memory → Kept out
   memory_writes_nothing _ (done bytes wanted gained kept) is = cc
-  memory_writes_nothing _ (refusing r wanted kept gained) is = absurd (refusal_is_not_memory r is)
-  memory_writes_nothing _ (memory right kept gained) is = kept
-  memory_writes_nothing _ (reading rose kept line) is = cc
-  memory_writes_nothing _ (writing bytes wanted part line) is = cc
-  memory_writes_nothing _ (refusal_cut r wanted kept part) is = cc
-  memory_writes_nothing _ (memory_cut right kept part) is = cc
+  memory_writes_nothing _ (refusing ends r wanted kept tells) is = kept
+  memory_writes_nothing _ (memory ends right kept tells) is = kept
+  memory_writes_nothing _ (reading ends rose kept tells) is = kept
+  memory_writes_nothing _ (writing _ bytes wanted part (told gained)) is = cc
+  memory_writes_nothing _ (writing _ bytes wanted part (cut rest)) is = cc

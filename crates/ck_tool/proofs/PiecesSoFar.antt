@@ -9,8 +9,8 @@ use Rattle.rex_model.specs.Meaning.{meaning, sequence_of}
 use Rattle.rex_model.specs.declared.regex.Regex.{Regex}
 use Rattle.ck_tool.specs.LineTokens.{Lexeme, sign}
 use Rattle.ck_tool.specs.RuleShape.{Pieces, no_pieces, once, starred, plussed, Atom, a_string, a_class, is_unstarred}
-use Rattle.ck_tool.specs.Seen.{seen}
-use Rattle.ck_tool.specs.Shapes.{BeginsPieces, BeginsWithSign, AreNoPieces, ArePieces, HaveNoBody, IsNoAtom, repeated, is_star, token_count}
+use Rattle.ck_tool.specs.within.Seen.{seen}
+use Rattle.ck_tool.specs.within.Shapes.{BeginsPieces, BeginsWithSign, AreNoPieces, ArePieces, HaveNoBody, IsNoAtom, repeated, is_star, token_count}
 use Rattle.ck_tool.specs.declared.token.Token.{Token}
 use Rattle.ck_tool.specs.declared.shape.Repeat.{Repeat}
 use Rattle.ck_tool.specs.declared.shape.Repeat.TheVariants.{Once, Star, Plus}

@@ -1,8 +1,10 @@
 -- What is printed at a place is the line of the token, or of END, there.
-use Rattle.std.proofs.Common.{◌≡◌, ℕ, List, [], length, Some, IfSome, slice_get, slice_range, refl}
-use Rattle.std.proofs.lemmas.Option.{get_or_from_slice_get}
+use Rattle.std.proofs.Common.{◌≡◌, ℕ, List, [], length, map, Option, None, Some, IfSome, option_map, slice_get, slice_range, refl, sym, ap, ◌∙◌}
+use Rattle.std.proofs.lemmas.Option.{get_or_from_slice_get, slice_get-map}
+use Rattle.rex_model.specs.RuleMeaning.{rule_of}
+use Rattle.rex_model.specs.Rules.{Rule}
 use Rattle.rex_model.specs.declared.rules.ScanRule.{ScanRule}
-use Rattle.ck_tool.specs.Places.{IsPlace, printed_place, printed_token, printed_end}
+use Rattle.ck_tool.specs.within.Places.{IsPlace, printed_place, printed_token, printed_end}
 use Rattle.ck_tool.specs.TokenText.{place_text, token_line, end_line}
 use Rattle.ck_tool.specs.declared.place.Place.{Place}
 
@@ -24,9 +26,16 @@ pub end_line_here : (text : List ℕ) (place : Place) → IsPlace text place →
 end_line_here text place is at_end = rw (printed_place-is text place is, at_end) refl
 
 -- the rule's token has the name that was looked up for the rule
-pub name_of_token : (rules : List ScanRule) (names : List (List ℕ)) (name : List ℕ) (i number : ℕ) (rule : ScanRule)
-    → slice_get rules i ≡ Some rule → rule.token ≡ Some number
-    → IfSome (slice_get rules i) (λ r. IfSome r.token (λ t. slice_get names t ≡ Some name)) → slice_get names number ≡ Some name
+pub name_of_token : (rules : List ScanRule) (names : List (List ℕ)) (name : List ℕ) (i number : ℕ) (rule : Rule)
+    → slice_get (map rule_of rules) i ≡ Some rule → rule.token ≡ Some number
+    → IfSome (slice_get rules i) (λ found. IfSome found.token (λ t. slice_get names t ≡ Some name)) → slice_get names number ≡ Some name
 name_of_token rules names name i number rule is_rule has_number named =
-    let of_rule = rw is_rule at named in
-    rw has_number at of_rule
+    of_rule (slice_get rules i) (sym (slice_get-map rule_of rules i) ∙ is_rule) named
+  where
+    of_rule : (found : Option ScanRule) → option_map rule_of found ≡ Some rule
+        → IfSome found (λ scan. IfSome scan.token (λ t. slice_get names t ≡ Some name)) → slice_get names number ≡ Some name
+    of_rule None is its = cc
+    of_rule (Some scan) is its =
+        let same : rule_of scan ≡ rule = cc in
+        let token : scan.token ≡ Some number = ap (λ r. r.token) same ∙ has_number in
+        rw token at its

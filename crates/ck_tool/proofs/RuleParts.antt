@@ -5,8 +5,8 @@ use Rattle.std.proofs.lemmas.List.{append_assoc, length-append, map-append}
 use Rattle.rex_model.specs.Language.{Re}
 use Rattle.ck_tool.specs.LineTokens.{Lexeme, word, sign}
 use Rattle.ck_tool.specs.RuleShape.{RuleShape, ending}
-use Rattle.ck_tool.specs.Seen.{seen}
-use Rattle.ck_tool.specs.Shapes.{ArePieces, HaveNoBody, IsAroundColon, IsNoRule, IsRuleOf, DeclareNothing}
+use Rattle.ck_tool.specs.within.Seen.{seen}
+use Rattle.ck_tool.specs.within.Shapes.{ArePieces, HaveNoBody, IsAroundColon, IsNoRule, IsRuleOf, DeclareNothing}
 use Rattle.ck_tool.specs.declared.token.Token.{Token}
 use Rattle.ck_tool.proofs.OneShape.{same_tails, same_ends}
 

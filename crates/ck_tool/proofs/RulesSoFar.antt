@@ -1,18 +1,22 @@
 -- The rules of a specification, read one after the other.
-use Rattle.std.proofs.Common.{◌≡◌, ℕ, suc, ◌+◌, ◌<◌, ◌≤◌, List, [], ◌∷◌, ◌++◌, length, map, take, drop, get_or, refl, Option, None, Some, arith}
+use Rattle.std.proofs.Common.{◌≡◌, ℕ, suc, ◌+◌, ◌<◌, ◌≤◌, List, [], ◌∷◌, ◌++◌, length, map, take, drop, get_or, refl, sym, ap, ◌∙◌, arith}
 use Rattle.std.proofs.lemmas.List.{take_more, take-map, map-append, length-append}
+use Rattle.std.proofs.lemmas.List.Elements.{filter_map-append}
+use Rattle.ck_base.specs.Numbered.{met}
+use Rattle.ck_base.proofs.NamesMet.{met-append, length-met}
+use Rattle.rex_model.specs.RuleMeaning.{rule_of}
 use Rattle.rex_model.specs.declared.rules.ScanRule.{ScanRule}
 use Rattle.ck_base.specs.declared.fault.SpecFault.{SpecFault}
 use Rattle.ck_base.specs.declared.fault.SpecFault.TheVariants.{Bad, NoMemory}
 use Rattle.ck_tool.specs.NumberedLines.{NumberedLine, lines_of, past_lines}
 use Rattle.ck_tool.specs.RuleShape.{Declaration, DeclaresOne}
-use Rattle.ck_tool.specs.Declares.{RuleLines, no_lines, one_more as one_more_line, of_sections, of_shape, IsRule, IsTokenNumber, AreRules, no_rules, more as one_more_rule, no_more}
-use Rattle.ck_tool.specs.RulesOfLines.{DeclaresRule, AreRulesOf, IsFaultOf, IsFaultOfLine, IsFaultOfLines, IsFaultOfSections}
+use Rattle.ck_tool.specs.Declares.{RuleLines, no_lines, one_more as one_more_line, of_sections, of_shape, token_names, rule_in}
+use Rattle.ck_tool.specs.within.RulesOfLines.{DeclaresRule, AreRulesOf, IsFaultOf, IsFaultOfLine, IsFaultOfLines, IsFaultOfSections}
 use Rattle.ck_tool.specs.Sections.{AreSections}
-use Rattle.ck_tool.specs.Seen.{line_of}
+use Rattle.ck_tool.specs.within.Seen.{line_of}
 use Rattle.ck_tool.specs.declared.line.SpecLine.{SpecLine}
 use Rattle.ck_tool.proofs.SectionsOfLines.{no_line, line_in_place, at_place}
-use Rattle.ck_tool.proofs.TokensMet.{Keeps, met_keeps, met_few, met_more}
+use Rattle.ck_tool.proofs.TokensMet.{one_name_at_most}
 
 -- the lines so far declare the rules so far; each names one token at most
 pub record RulesSoFar (lines : List SpecLine) (names : List (List ℕ)) (rules : List ScanRule) : Type 0 where
@@ -23,7 +27,7 @@ pub record RulesSoFar (lines : List SpecLine) (names : List (List ℕ)) (rules :
 -- no line declares no rule
 pub no_rules_yet : (names : List (List ℕ)) (rules : List ScanRule) → names ≡ [] → rules ≡ [] → RulesSoFar [] names rules
 no_rules_yet names rules no_names none = rw (no_names, none) (record {
-  are_rules = record { declared = []; by_lines = no_lines; met = no_more []; are_rules = no_rules };
+  are_rules = record { declared = []; by_lines = no_lines; tokens = refl; are_rules = λ later. refl };
   few = omega arith;
   each = refl;
 })
@@ -35,45 +39,35 @@ line_at_end line last is no_lines = one_more_line line [] last [] is no_lines
 line_at_end line last is (one_more_line first lines rule rules its rest) =
     one_more_line first _ rule _ its (line_at_end line last is rest)
 
-module _ (old new : List (List ℕ)) (keeps : Keeps old new) where
-  -- a token's number and a rule stay right where more names are numbered
-  number_stays : (name : Option (List ℕ)) (number : Option ℕ) → IsTokenNumber old name number → IsTokenNumber new name number
-  number_stays None None is = tt
-  number_stays None (Some n) is = is
-  number_stays (Some name) None is = is
-  number_stays (Some name) (Some n) is = keeps n name is
-
-  rule_stays : (declared : Declaration) (rule : ScanRule) → IsRule old declared rule → IsRule new declared rule
-  rule_stays declared rule is = record {
-    states = is.states;
-    body = is.body;
-    context = is.context;
-    token = number_stays declared.token rule.token is.token;
-    next = is.next;
-  }
-
-  -- one rule more at the end
-  rule_at_end : {declared : List Declaration} {rules : List ScanRule} (last : Declaration) (rule : ScanRule)
-      → IsRule new last rule → AreRules old declared rules → AreRules new (declared ++ last ∷ []) (rules ++ rule ∷ [])
-  rule_at_end last rule is no_rules = one_more_rule last [] rule [] is no_rules
-  rule_at_end last rule is (one_more_rule first others its_rule rules its rest) =
-      one_more_rule first _ its_rule _ (rule_stays first its_rule its) (rule_at_end last rule is rest)
-
 -- one rule more
+one_rule_more : (lines : List NumberedLine) (line : NumberedLine) (old new : List (List ℕ)) (rules : List ScanRule) (rule : ScanRule)
+    → AreRulesOf lines old rules → DeclaresRule line.text old new rule → AreRulesOf (lines ++ line ∷ []) new (rules ++ rule ∷ [])
+one_rule_more lines line old new rules rule before declares =
+    let last = declares.declared in
+    let name = token_names (last ∷ []) in
+    record {
+      declared = before.declared ++ last ∷ [];
+      by_lines = line_at_end line last declares.by_line before.by_lines;
+      tokens = declares.names ∙ ap (λ names. met names name) before.tokens ∙ sym (met-append [] (token_names before.declared) name)
+          ∙ ap (met []) (sym (filter_map-append (λ rule. rule.token) before.declared (last ∷ [])));
+      are_rules = λ later.
+          let names = met-append old name later ∙ ap (λ all. met all later) (sym declares.names) in
+          map-append rule_of rules (rule ∷ [])
+          ∙ ap (λ all. all ++ rule_of rule ∷ []) (before.are_rules (name ++ later) ∙ ap (λ all. map (rule_in all) before.declared) names)
+          ∙ ap (λ one. map (rule_in (met new later)) before.declared ++ one ∷ []) (declares.is_rule later)
+          ∙ sym (map-append (rule_in (met new later)) before.declared (last ∷ []));
+    }
+
 pub more_rules : (lines : List SpecLine) (i : ℕ) (old new : List (List ℕ)) (rules more : List ScanRule) (rule : ScanRule) → i < length lines
     → RulesSoFar (take i lines) old rules → DeclaresRule (get_or lines i no_line).text.now old new rule → more ≡ rules ++ rule ∷ []
     → RulesSoFar (take (i + 1) lines) new more
 more_rules lines i old new rules more rule within so_far declares at_rules =
-    let before = so_far.are_rules in
     let line = get_or lines i no_line in
+    let name = token_names (declares.declared ∷ []) in
     rw (take_more lines i no_line within, at_rules) (record {
-      are_rules = rw (map-append line_of (take i lines) (line ∷ [])) (record {
-        declared = before.declared ++ declares.declared ∷ [];
-        by_lines = line_at_end (line_of line) declares.declared declares.by_line before.by_lines;
-        met = met_more before.met declares.met;
-        are_rules = rule_at_end old new (met_keeps declares.met) declares.declared rule declares.is_rule before.are_rules;
-      });
-      few = simp length-append (omega (arith, so_far.few, met_few declares.met));
+      are_rules = rw (map-append line_of (take i lines) (line ∷ []))
+          (one_rule_more (map line_of (take i lines)) (line_of line) old new rules rule so_far.are_rules declares);
+      few = simp length-append (omega (arith, so_far.few, ap length declares.names, length-met old name, one_name_at_most declares.declared));
       each = simp length-append (omega (arith, so_far.each));
     })
 

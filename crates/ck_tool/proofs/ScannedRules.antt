@@ -1,28 +1,33 @@
--- Declared rules have no contexts, and their tokens have names, as scanning asks for.
-use Rattle.std.proofs.Common.{◌≡◌, ℕ, ◌<◌, List, length, Option, Some, None, IfSome}
+-- The tokens of declared rules have names, as scanning asks for.
+use Rattle.std.proofs.Common.{◌≡◌, ℕ, ◌<◌, List, length, Option, Some, None, IfSome, refl, sym, subst}
+use Rattle.std.specs.Prelude.{option_and_then, slice_index_or}
 use Rattle.std.specs.List.{All}
-use Rattle.std.proofs.lemmas.List.Elements.{All-nil, All-cons}
+use Rattle.std.proofs.Math.ListN.{get_or-map}
+use Rattle.std.proofs.lemmas.List.{length-map}
+use Rattle.std.proofs.lemmas.List.Elements.{All-map}
 use Rattle.std.proofs.lemmas.Option.{slice_get_within}
-use Rattle.rex_model.specs.declared.rules.ScanRule.{ScanRule}
-use Rattle.ck_tool.specs.Declares.{AreRules, no_rules, more, IsTokenNumber}
-use Rattle.ck_tool.specs.RuleShape.{Declaration}
+use Rattle.ck_base.specs.Numbered.{number_of}
+use Rattle.ck_base.proofs.NamesMet.{name_at_number}
+use Rattle.rex_model.specs.Rules.{Rule, Rules}
+use Rattle.rex_model.specs.RuleMeaning.{rule_of, rules_of}
+use Rattle.rex_model.specs.declared.rules.ScanRules.{ScanRules}
+use Rattle.ck_tool.specs.Declares.{declared_rules, rule_in, DeclaresRules}
+use Rattle.ck_tool.specs.within.Places.{NameTokens}
 
-pub are_plain : (names : List (List ℕ)) (declared : List Declaration) (rules : List ScanRule) → AreRules names declared rules
-    → All (λ rule. rule.context ≡ None) rules
-are_plain names _ _ no_rules = All-nil (λ rule. rule.context ≡ None)
-are_plain names _ _ (more declared others rule rules is rest) =
-    All-cons (λ rule. rule.context ≡ None) rule rules is.context (are_plain names others rules rest)
+-- the number of a name is below how many there are
+below : (names : List (List ℕ)) (name : Option (List ℕ)) → IfSome (option_and_then (number_of names) name) (λ t. t < length names)
+below names None = tt
+below names (Some name) = cases (number_of names name) refl
+  where
+    cases : (number : Option ℕ) → number_of names name ≡ number → IfSome number (λ t. t < length names)
+    cases None is = tt
+    cases (Some n) is = slice_get_within names n name (name_at_number names name n is)
 
-has_name : (names : List (List ℕ)) (name : Option (List ℕ)) (number : Option ℕ) → IsTokenNumber names name number
-    → IfSome number (λ n. n < length names)
-has_name names None None is = tt
-has_name names None (Some n) is = absurd is
-has_name names (Some name) None is = tt
-has_name names (Some name) (Some n) is = slice_get_within names n name is
-
-pub have_names : (names : List (List ℕ)) (declared : List Declaration) (rules : List ScanRule) → AreRules names declared rules
-    → All (λ rule. IfSome rule.token (λ n. n < length names)) rules
-have_names names _ _ no_rules = All-nil (λ rule. IfSome rule.token (λ n. n < length names))
-have_names names _ _ (more declared others rule rules is rest) =
-    All-cons (λ rule. IfSome rule.token (λ n. n < length names)) rule rules
-    (has_name names declared.token rule.token is.token) (have_names names others rules rest)
+pub have_names : (spec : List ℕ) (rules : ScanRules) → DeclaresRules spec (rules_of rules) → NameTokens rules
+have_names spec rules declares = λ k d within.
+    let number = λ (all : Rules) (rule : Rule). IfSome rule.token (λ t. t < length all.tokens) in
+    let meant = declared_rules declares.declared in
+    let each : All (number meant) meant.list = All-map (number meant) (rule_in meant.tokens) declares.declared
+    (λ i other inside. below meant.tokens (slice_index_or declares.declared i other).token) in
+    let all = subst (λ those. All (number those) those.list) (sym declares.are_rules) each in
+    rw (get_or-map rule_of rules.rules.items k d) at (all k (rule_of d) (rw (length-map rules.rules.items rule_of) within))

@@ -4,8 +4,8 @@ use Rattle.std.specs.Prelude.{slice_get}
 use Rattle.std.proofs.Math.ListN.{drop_of_length-le}
 use Rattle.std.proofs.lemmas.Option.{slice_get-map, slice_get-get_or}
 use Rattle.ck_tool.specs.NumberedLines.{NumberedLine}
-use Rattle.ck_tool.specs.RulesOfLines.{IsFirstEnd}
-use Rattle.ck_tool.specs.Seen.{line_of}
+use Rattle.ck_tool.specs.within.RulesOfLines.{IsFirstEnd}
+use Rattle.ck_tool.specs.within.Seen.{line_of}
 use Rattle.ck_tool.specs.declared.line.SpecLine.{SpecLine}
 use Rattle.ck_tool.specs.Sections.{IsRex, IsEnd, NoneIsEnd, AreSections, SectionFault, nothing, after_end}
 

@@ -6,7 +6,7 @@ use Rattle.std.proofs.lemmas.List.{take_rest, append-nil, append_assoc}
 use Rattle.std.proofs.lemmas.Bool.{and_parts}
 use Rattle.rex_model.specs.Meaning.{set_of}
 use Rattle.ck_tool.specs.LineTokens.{Lexeme, word, string, byte_set, Span, IsClass, BeginsWith, a_word, a_text, a_class, a_sign, LineTokens, no_tokens, blank, a_token, is_sign, is_blank, is_letter, is_word_byte, word_len, text_len, class_len}
-use Rattle.ck_tool.specs.Begins.{BeginsWithNone, BeginsUnblank, HasNoTokens, IsSetOf, CutsAt}
+use Rattle.ck_tool.specs.within.Begins.{BeginsWithNone, BeginsUnblank, HasNoTokens, IsSetOf, CutsAt}
 use Rattle.ck_tool.proofs.OneLexing.{blank_begins_none, nothing_begins, one_begin}
 
 -- a byte more is dropped, or taken, with the byte in front

@@ -1,72 +1,70 @@
--- The names of tokens, numbered in the order in which they are first met.
-use Rattle.std.proofs.Common.{◌≡◌, ℕ, zero, suc, ◌+◌, ◌≤◌, List, [], ◌∷◌, ◌++◌, length, refl, ap, ◌∙◌, Option, None, Some, Bor, arith}
-use Rattle.std.specs.Prelude.{Contains, slice_get}
-use Rattle.std.proofs.lemmas.List.{length-append}
-use Rattle.std.proofs.lemmas.Option.{slice_get_within, get_or_from_slice_get}
-use Rattle.ck_base.specs.Numbered.{Interns, known, added}
+-- The names of tokens, numbered in the order in which they are first met, and the rules of the program with these numbers.
+use Rattle.std.proofs.Common.{◌≡◌, ℕ, ◌≤◌, Bool, true, false, IsTrue, ◌↔◌, ◌==◌, sym, List, [], ◌∷◌, length, map, refl, Option, None, Some, Bor, codes, arith}
+use Rattle.std.specs.Prelude.{option_and_then}
+use Rattle.std.proofs.Math.Path.{fun_ext}
+use Rattle.std.proofs.lemmas.Bool.{eq-eqb, eqb-true}
+use Rattle.ck_base.specs.BitSet.{BitSet, Has}
+use Rattle.ck_base.specs.Numbered.{met, number_of}
+use Rattle.ck_base.proofs.NamesMet.{number_of-met}
+use Rattle.rex_model.specs.RuleMeaning.{contains}
+use Rattle.rex_model.specs.Language.{Re}
+use Rattle.rex_model.specs.Rules.{Rule, Rules}
+use Rattle.rex_model.proofs.MeantRules.{contains_has}
 use Rattle.ck_tool.specs.RuleShape.{Declaration}
-use Rattle.ck_tool.specs.Declares.{IsTokenNumber, Met, no_more, skips, known as known_name, added as added_name}
-use Rattle.ck_tool.specs.Shapes.{name_of}
-use Rattle.ck_tool.specs.RulesOfLines.{IsNumber}
-
--- the old names keep their numbers
-abbrev pub Keeps : List (List ℕ) → List (List ℕ) → Type 0
-Keeps old new = (n : ℕ) (name : List ℕ) → slice_get old n ≡ Some name → slice_get new n ≡ Some name
-
--- a name more at the end changes no number, and its number is the next
-keeps_at_end : (names : List (List ℕ)) (more : List ℕ) → Keeps names (names ++ more ∷ [])
-keeps_at_end [] more n name at = (cc)
-keeps_at_end (first ∷ names) more zero name at = at
-keeps_at_end (first ∷ names) more (suc n) name at = keeps_at_end names more n name at
-
-at_end : (names : List (List ℕ)) (more : List ℕ) → slice_get (names ++ more ∷ []) (length names) ≡ Some more
-at_end [] more = refl
-at_end (first ∷ names) more = at_end names more
-
--- names that are met keep the numbers of those before
-pub met_keeps : {old new : List (List ℕ)} {declared : List Declaration} → Met old declared new → Keeps old new
-met_keeps (no_more names) = λ n name at. at
-met_keeps (skips names after declared others none met) = met_keeps met
-met_keeps (known_name names after name declared others some there met) = met_keeps met
-met_keeps (added_name names after name declared others some absent met) =
-    λ n old at. met_keeps met n old (keeps_at_end names name n old at)
+use Rattle.ck_tool.specs.Declares.{token_names, rule_in, declared_rules}
+use Rattle.ck_tool.specs.within.Shapes.{name_of}
+use Rattle.ck_tool.specs.within.RulesOfLines.{IsNumber}
 
 -- a declaration has one name at most
-pub met_few : {old new : List (List ℕ)} {declared : List Declaration} → Met old declared new → length new ≤ length old + length declared
-met_few (no_more names) = omega arith
-met_few (skips names after declared others none met) = omega (arith, met_few met)
-met_few (known_name names after name declared others some there met) = omega (arith, met_few met)
-met_few (added_name names after name declared others some absent met) = omega (arith, met_few met, length-append names (name ∷ []))
+pub one_name_at_most : (declared : Declaration) → length (token_names (declared ∷ [])) ≤ 1
+one_name_at_most declared = names declared.token
+  where
+    names : (token : Option (List ℕ)) → length (token_names (record { body = declared.body; token = token } ∷ [])) ≤ 1
+    names None = omega arith
+    names (Some name) = omega arith
 
--- names are met one declaration after the other
-pub met_more : {old mid new : List (List ℕ)} {first second : List Declaration} → Met old first mid → Met mid second new → Met old (first ++ second) new
-met_more (no_more names) rest = rest
-met_more (skips names after declared others none met) rest = skips names _ declared _ none (met_more met rest)
-met_more (known_name names after name declared others some there met) rest = known_name names _ name declared _ some there (met_more met rest)
-met_more (added_name names after name declared others some absent met) rest = added_name names _ name declared _ some absent (met_more met rest)
+module _ (old new : List (List ℕ)) (declared : Declaration) where
+  -- the name of one declaration is met where it is numbered
+  pub met_once : (name : Option (Bor (List ℕ))) (number : Option ℕ) → declared.token ≡ name_of name → IsNumber old new name number
+      → new ≡ met old (token_names (declared ∷ []))
+  met_once None None at is = rw at is
+  met_once None (Some n) at is = absurd is
+  met_once (Some name) None at is = absurd is
+  met_once (Some name) (Some n) at is = rw at is.0
 
--- the name of one declaration is met where it is numbered
-pub met_once : (old new : List (List ℕ)) (declared : Declaration) (name : Option (Bor (List ℕ))) (number : Option ℕ)
-    → declared.token ≡ name_of name → IsNumber old new name number → Met old (declared ∷ []) new
-met_once old new declared None None at same = rw same (skips old old declared [] at (no_more old))
-met_once old new declared None (Some n) at is = absurd is
-met_once old new declared (Some name) None at is = absurd is
-met_once old new declared (Some name) (Some n) at (known same there) =
-    let is_there : Contains old name.now = (n, slice_get_within old n name.now there, get_or_from_slice_get old n name.now name.now there) in
-    rw same (known_name old old name.now declared [] at is_there (no_more old))
-met_once old new declared (Some name) (Some n) at (added absent more number) =
-    rw more (added_name old (old ++ name.now ∷ []) name.now declared [] at absent (no_more (old ++ name.now ∷ [])))
+  -- and keeps its number, whatever is met later
+  pub number_stays : (name : Option (Bor (List ℕ))) (number : Option ℕ) → declared.token ≡ name_of name → IsNumber old new name number
+      → (later : List (List ℕ)) → number ≡ option_and_then (number_of (met new later)) declared.token
+  number_stays None None at is later = rw at refl
+  number_stays None (Some n) at is later = absurd is
+  number_stays (Some name) None at is later = absurd is
+  number_stays (Some name) (Some n) at is later = rw (at, number_of-met new later name.now n is.1) refl
 
--- what is numbered is the name's number
-pub is_number : (old new : List (List ℕ)) (name : Option (Bor (List ℕ))) (number : Option ℕ) → IsNumber old new name number
-    → IsTokenNumber new (name_of name) number
-is_number old new None None same = tt
-is_number old new None (Some n) is = absurd is
-is_number old new (Some name) None is = absurd is
-is_number old new (Some name) (Some n) (known same there) = rw same there
-is_number old new (Some name) (Some n) (added absent more number) = rw (more, number) (at_end old name.now)
+-- tests that are true of the same are one
+same_test : (a b : Bool) → (IsTrue a → IsTrue b) → (IsTrue b → IsTrue a) → a ≡ b
+same_test true true f g = refl
+same_test true false f g = sym (f refl)
+same_test false true f g = g refl
+same_test false false f g = refl
 
--- the first name is the only one
-pub first_name : (old new : List (List ℕ)) (name : List ℕ) (n : ℕ) → old ≡ [] → Interns old new name n → new ≡ name ∷ []
-first_name old new name n none (known same there) = let nowhere : slice_get [] n ≡ Some name = rw none at there in (cc)
-first_name old new name n none (added absent more number) = more ∙ ap (λ names. names ++ name ∷ []) none
+-- the set that has the first state alone
+pub is_std : (states : BitSet) → ((state : ℕ) → Has states state ↔ (state ≡ 0)) → contains states ≡ (λ state. state == 0)
+is_std states has = fun_ext (λ state. same_test (contains states state) (state == 0)
+    (λ is. eq-eqb state 0 ((has state).0 ((contains_has states state).0 is)))
+    (λ is. (contains_has states state).1 ((has state).1 (eqb-true state 0 is))))
+
+-- rules with the same parts are one
+abbrev rule_with : (ℕ → Bool) → Re → Option ℕ → Rule
+rule_with active body token = record { active = active; body = body; context = None; token = token; next = None }
+
+pub same_rule : (active : ℕ → Bool) (body : Re) (token : Option ℕ) (names : List (List ℕ)) (declared : Declaration)
+    → active ≡ (λ state. state == 0) → body ≡ declared.body → token ≡ option_and_then (number_of names) declared.token
+    → rule_with active body token ≡ rule_in names declared
+same_rule active body token names declared is_active is_body is_token = rw (is_active, is_body, is_token) refl
+
+abbrev rules_with : List (List ℕ) → List (List ℕ) → List Rule → Rules
+rules_with states tokens list = record { states = states; tokens = tokens; list = list }
+
+pub same_rules : (states tokens : List (List ℕ)) (list : List Rule) (declared : List Declaration) → states ≡ codes "STD" ∷ []
+    → tokens ≡ met [] (token_names declared) → list ≡ map (rule_in tokens) declared → rules_with states tokens list ≡ declared_rules declared
+same_rules states tokens list declared is_std is_tokens is_list = rw (is_std, is_list, is_tokens) refl

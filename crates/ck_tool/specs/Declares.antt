@@ -1,11 +1,9 @@
--- What a whole specification declares or which is its first fault, and the scan rules that say the same.
-use Rattle.std.specs.Prelude.{◌≡◌, ℕ, ◌↔◌, List, [], ◌∷◌, ◌++◌, Option, Some, None, Contains, slice_get, codes}
-use Rattle.ck_base.specs.BitSet.{Has}
+-- What a whole specification declares, or which is its first fault.
+use Rattle.std.specs.Prelude.{◌≡◌, ℕ, ◌==◌, List, [], ◌∷◌, ◌++◌, map, filter_map, option_and_then, None, codes}
+use Rattle.ck_base.specs.Numbered.{met, number_of}
 use Rattle.ck_base.specs.declared.fault.Kind.{Kind}
 use Rattle.ck_base.specs.declared.fault.Kind.TheVariants.{Section, Syntax}
-use Rattle.rex_model.specs.Meaning.{meaning}
-use Rattle.rex_model.specs.declared.rules.ScanRule.{ScanRule}
-use Rattle.rex_model.specs.declared.rules.ScanRules.{ScanRules}
+use Rattle.rex_model.specs.Rules.{Rule, Rules}
 use Rattle.ck_tool.specs.NumberedLines.{NumberedLine, lines_of, past_lines}
 use Rattle.ck_tool.specs.RuleShape.{Declaration, DeclaresOne, HasNoShape}
 use Rattle.ck_tool.specs.Sections.{AreSections, SectionFault}
@@ -40,44 +38,32 @@ pub data Fault (spec : List ℕ) : ℕ → Kind → Type 0 where
   of_shape : (between : List NumberedLine) (line : ℕ) → AreSections (lines_of spec) between
       → FirstWithoutShape between line → Fault spec line Syntax
 
--- the number is that of the token's name; a skipped text has neither
-abbrev pub IsTokenNumber : List (List ℕ) → Option (List ℕ) → Option ℕ → Type 0
-IsTokenNumber names None None = Unit {0}
-IsTokenNumber names None (Some n) = ⊥
-IsTokenNumber names (Some name) None = ⊥
-IsTokenNumber names (Some name) (Some n) = slice_get names n ≡ Some name
+-- the names of tokens, in the order declared
+abbrev pub token_names : List Declaration → List (List ℕ)
+token_names declared = filter_map (λ rule. rule.token) declared
 
--- the scan rule says what is declared: it is active in STD alone, has no context, and the state stays
-pub record IsRule (names : List (List ℕ)) (declared : Declaration) (rule : ScanRule) : Type 0 where
-  pub states : (state : ℕ) → Has rule.states state ↔ (state ≡ 0)
-  pub body : meaning rule.body.now ≡ declared.body
-  pub context : rule.context ≡ None
-  pub token : IsTokenNumber names declared.token rule.token
-  pub next : rule.next ≡ None
+-- the scan rule that is declared: it is active in STD alone, has no context, and the state stays; its
+-- token has the number of its name
+abbrev pub rule_in : List (List ℕ) → Declaration → Rule
+rule_in names declared = record {
+  active = λ state. state == 0;
+  body = declared.body;
+  context = None;
+  token = option_and_then (number_of names) declared.token;
+  next = None;
+}
 
--- a scan rule for each declaration, in order
-pub data AreRules (names : List (List ℕ)) : List Declaration → List ScanRule → Type 0 where
-  no_rules : AreRules names [] []
-  more : (declared : Declaration) (others : List Declaration) (rule : ScanRule) (rules : List ScanRule)
-      → IsRule names declared rule → AreRules names others rules → AreRules names (declared ∷ others) (rule ∷ rules)
+-- the scan rules that are declared: STD is the one state, and tokens are numbered in the order in
+-- which their names are first met
+abbrev pub declared_rules : List Declaration → Rules
+declared_rules declared = record {
+  states = codes "STD" ∷ [];
+  tokens = met [] (token_names declared);
+  list = map (rule_in (met [] (token_names declared))) declared;
+}
 
--- `after` are the names before and then the declared tokens' names in the order in which they are first met
-pub data Met : List (List ℕ) → List Declaration → List (List ℕ) → Type 0 where
-  no_more : (names : List (List ℕ)) → Met names [] names
-  skips : (names after : List (List ℕ)) (declared : Declaration) (others : List Declaration)
-      → declared.token ≡ None → Met names others after → Met names (declared ∷ others) after
-  known : (names after : List (List ℕ)) (name : List ℕ) (declared : Declaration) (others : List Declaration)
-      → declared.token ≡ Some name → Contains names name → Met names others after
-      → Met names (declared ∷ others) after
-  added : (names after : List (List ℕ)) (name : List ℕ) (declared : Declaration) (others : List Declaration)
-      → declared.token ≡ Some name → (Contains names name → ⊥) → Met (names ++ name ∷ []) others after
-      → Met names (declared ∷ others) after
-
--- the specification declares these scan rules: STD is the one state, and tokens are numbered in the
--- order in which their names are first met
-pub record DeclaresRules (spec : List ℕ) (rules : ScanRules) : Type 0 where
+-- the specification declares these scan rules
+pub record DeclaresRules (spec : List ℕ) (rules : Rules) : Type 0 where
   pub declared : List Declaration
   pub by_lines : Declares spec declared
-  pub states : rules.states ≡ codes "STD" ∷ []
-  pub tokens : Met [] declared rules.tokens
-  pub are_rules : AreRules rules.tokens declared rules.rules.items
+  pub are_rules : rules ≡ declared_rules declared

@@ -1,5 +1,5 @@
 ghost use Rattle.std.specs.Prelude.{◌≡◌, ◌↔◌, ◌∷◌, ◌<◌, ◌≤◌, length, IsTrue, MatchOption};
-ghost use Rattle.ck_tool.specs.Begins.{AddsSpan, BeginsSpans, HasNoRange, HasNoSpans, IsNoClass, IsSetOf, IsSpan};
+ghost use Rattle.ck_tool.specs.within.Begins.{AddsSpan, BeginsSpans, HasNoRange, HasNoSpans, IsNoClass, IsSetOf, IsSpan};
 
 use crate::bytes::is_class_byte;
 

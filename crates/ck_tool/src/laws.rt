@@ -1,5 +1,6 @@
 ghost use Rattle.std.specs.Prelude.{◌≡◌, ℕ, List, map, string_bytes};
-ghost use Rattle.ck_tool.specs.Outcome.{AreTold, Outcome, Wanted};
+ghost use Rattle.ck_tool.specs.Outcome.{Outcome};
+ghost use Rattle.ck_tool.specs.Wanted.{AreTold, Wanted};
 
 use ck_io::Files;
 

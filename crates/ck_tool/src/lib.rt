@@ -25,6 +25,7 @@ mod quote;
 mod reader;
 mod section;
 mod shape;
+mod stage;
 mod stop;
 mod telling;
 #[cfg(test)]

@@ -2,7 +2,7 @@ ghost use Rattle.std.specs.Prelude.{◌≡◌, ◌+◌, ◌==◌, ◌<◌, ◌�
 ghost use Rattle.std.specs.List.{position_or_len};
 ghost use Rattle.std.specs.Str.Lines.{lines, strip_carriage_return};
 ghost use Rattle.ck_tool.specs.NumberedLines.{lines_of};
-ghost use Rattle.ck_tool.specs.Seen.{line_of};
+ghost use Rattle.ck_tool.specs.within.Seen.{line_of};
 
 use crate::bytes::is_blank_line;
 use ck_base::NoMemory;

@@ -1,5 +1,5 @@
 ghost use Rattle.std.specs.Prelude.{◌≡◌, ℕ, ◌+◌, ◌^◌, ◌<◌, ◌≤◌, List, length, Some, slice_get};
-ghost use Rattle.ck_tool.specs.Places.{IsPlace};
+ghost use Rattle.ck_tool.specs.within.Places.{IsPlace};
 
 /// A place in a text: the number of bytes before it, and its line and column, which count from 1.
 /// Columns count bytes.

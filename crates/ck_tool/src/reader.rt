@@ -1,8 +1,9 @@
 ghost use Rattle.std.specs.Prelude.{◌≡◌, ◌+◌, ◌^◌, ◌<◌, ◌≤◌, ◌↔◌, ℕ, [], length, map, IfOk, IfErr};
 ghost use Rattle.ck_base.specs.BitSet.{Has};
+ghost use Rattle.rex_model.specs.RuleMeaning.{rules_of as meant_rules};
 ghost use Rattle.ck_tool.specs.Declares.{DeclaresRules};
-ghost use Rattle.ck_tool.specs.RulesOfLines.{DeclaresRule, AreRulesOf, IsFaultOf, IsFaultOfLine, IsFaultOfLines, IsNumber};
-ghost use Rattle.ck_tool.specs.Seen.{line_of};
+ghost use Rattle.ck_tool.specs.within.RulesOfLines.{DeclaresRule, AreRulesOf, IsFaultOf, IsFaultOfLine, IsFaultOfLines, IsNumber};
+ghost use Rattle.ck_tool.specs.within.Seen.{line_of};
 
 use crate::line::{SpecLine, spec_lines};
 use crate::section::rule_lines;
@@ -26,7 +27,7 @@ pub(crate) fn read_rules<'a>(
     spec: &[u8],
 ) -> Result<ScanRules<'a>, SpecFault>
     requires { length spec.now ≤ 1048576 }
-    ensures declared { IfOk result (λ rules. DeclaresRules spec.now rules) }
+    ensures declared { IfOk result (λ rules. DeclaresRules spec.now (meant_rules rules)) }
     ensures few { IfOk result (λ rules. length rules.rules.items < 2 ^ 32) }
     ensures fault { IfErr result (IsFaultOf spec.now) }
 {

@@ -1,9 +1,9 @@
 ghost use Rattle.std.specs.Prelude.{◌≡◌, ◌+◌, ◌^◌, ◌<◌, ◌≤◌, length, map, IfOk, IfErr, IfSome, MatchOption};
 ghost use Rattle.ck_base.specs.declared.fault.Kind.TheVariants.{Section as section};
 ghost use Rattle.ck_base.specs.declared.fault.SpecFault.TheVariants.{Bad as bad};
-ghost use Rattle.ck_tool.specs.RulesOfLines.{IsFaultOfSections, IsFirstEnd};
+ghost use Rattle.ck_tool.specs.within.RulesOfLines.{IsFaultOfSections, IsFirstEnd};
 ghost use Rattle.ck_tool.specs.Sections.{AreSections, NoneIsEnd};
-ghost use Rattle.ck_tool.specs.Seen.{line_of};
+ghost use Rattle.ck_tool.specs.within.Seen.{line_of};
 
 use crate::line::{SpecLine, SpecLines};
 use crate::token::is_alone;

@@ -2,8 +2,8 @@ ghost use Rattle.std.specs.Prelude.{◌≡◌, ℕ, ◌+◌, ◌<◌, ◌≤◌,
 ghost use Rattle.rex_model.specs.Meaning.{meaning};
 ghost use Rattle.ck_tool.specs.LineTokens.{Lexeme, word};
 ghost use Rattle.ck_tool.specs.RuleShape.{Atom, RuleShape, is_unstarred};
-ghost use Rattle.ck_tool.specs.Seen.{seen};
-ghost use Rattle.ck_tool.specs.Shapes.{AreNoPieces, ArePieces, BeginsPieces, BeginsWithSign, DeclareNothing, HaveNoBody, IsAroundColon, IsNoAtom, IsNoRule, IsRuleOf, is_star, token_count, repeated, declaration_of, name_of};
+ghost use Rattle.ck_tool.specs.within.Seen.{seen};
+ghost use Rattle.ck_tool.specs.within.Shapes.{AreNoPieces, ArePieces, BeginsPieces, BeginsWithSign, DeclareNothing, HaveNoBody, IsAroundColon, IsNoAtom, IsNoRule, IsRuleOf, is_star, token_count, repeated, declaration_of, name_of};
 
 use crate::token::{Token, is_this_sign, is_word};
 use bumpalo::Bump;

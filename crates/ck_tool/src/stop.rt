@@ -1,11 +1,11 @@
 ghost use Rattle.std.specs.Prelude.{◌≡◌};
-ghost use Rattle.ck_tool.specs.Stops.{stop_of};
+ghost use Rattle.ck_tool.specs.within.Stops.{stop_of};
 ghost use Rattle.ck_tool.specs.declared.stop.Stop.TheVariants.{NoMemory as no_memory};
 
 use ck_base::{NoMemory, Refusal, SpecFault};
 
 /// Why there is no output.
-#[derive(Clone, Copy)]
+#[derive(Drop)]
 pub(crate) enum Stop {
     /// The specification or the source is refused.
     Refused(Refusal),

@@ -1,8 +1,7 @@
 ghost use Rattle.std.specs.Prelude.{◌≤◌, ◌<◌, length, take, IfErr, OnOk, OnErr};
 ghost use Rattle.ck_io.specs.Contents.{Appends};
 ghost use Rattle.ck_io.specs.Faults.{Rose};
-ghost use Rattle.ck_tool.specs.Outcome.{ended, sunk};
-ghost use Rattle.ck_tool.specs.Tells.{Tells};
+ghost use Rattle.ck_tool.specs.Ran.{Tells, ended, sunk};
 
 use ck_base::Status;
 use ck_io::{Sink, WriteFault, put_all};
@@ -10,7 +9,8 @@ use ck_io::{Sink, WriteFault, put_all};
 /// Puts the line and its end. It takes no memory.
 fn put_line<S: Sink>(sink: &mut S, line: &[u8]) -> Result<(), WriteFault>
     ensures all { OnOk result (Appends (S.written sink.old) (S.written sink.new) (ended line.now)) }
-    ensures front { IfErr result (λ fault. Appends (S.written sink.old) (S.written sink.new) (take fault.written (ended line.now))) }
+    ensures front { IfErr result (λ fault.
+        Appends (S.written sink.old) (S.written sink.new) (take fault.written (ended line.now))) }
     ensures fewer { IfErr result (λ fault. fault.written < length (ended line.now)) }
     ensures cause { OnErr result (Rose (S.faults sink.old) (S.faults sink.new)) }
     ensures later { S.faults sink.old ≤ S.faults sink.new }
@@ -26,8 +26,7 @@ fn put_line<S: Sink>(sink: &mut S, line: &[u8]) -> Result<(), WriteFault>
 
 /// Puts the line, and says how the run ends: in `status`, where the sink took it.
 pub(crate) fn tell<S: Sink>(sink: &mut S, line: &[u8], status: Status) -> Status
-    ensures { Tells line.now status
-        (sunk (S.written sink.old) (S.written sink.new) (S.faults sink.old) (S.faults sink.new)) result }
+    ensures { Tells line.now status (sunk S.written S.faults sink.old sink.new) result }
 {
     match put_line(sink, line) {
         Ok(()) => status,

@@ -1,8 +1,8 @@
 ghost use Rattle.std.specs.Prelude.{List, ◌≡◌, ◌↔◌, ◌<◌, ◌≤◌, true, Some, [], ◌∷◌, length, map, IsTrue, IfOk, MatchOption, slice_get, slice_index};
 ghost use Rattle.std.specs.List.{prefix_len};
 ghost use Rattle.ck_tool.specs.LineTokens.{Lexeme, word, sign, BeginsWith, LineTokens, is_blank, is_letter, word_len, text_len, class_len};
-ghost use Rattle.ck_tool.specs.Begins.{BeginsWithNone, BeginsUnblank, HasNoTokens, CutsAt};
-ghost use Rattle.ck_tool.specs.Seen.{seen};
+ghost use Rattle.ck_tool.specs.within.Begins.{BeginsWithNone, BeginsUnblank, HasNoTokens, CutsAt};
+ghost use Rattle.ck_tool.specs.within.Seen.{seen};
 
 use crate::bytes::{is_blank, is_blank_line, is_letter, is_sign, is_text_byte, is_word_byte};
 use crate::class::class_set;

@@ -1,12 +1,16 @@
-ghost use Rattle.std.specs.Prelude.{◌≡◌, ◌^◌, ◌<◌, ◌≤◌, ◌⊎◌, ℕ, List, length, map, string_bytes, IfOk, IfErr};
+ghost use Rattle.std.specs.Prelude.{◌≡◌, ◌≢◌, ◌+◌, ◌^◌, ◌<◌, ◌≤◌, ◌⊎◌, ℕ, List, length, map, string_bytes, IfOk, IfErr, IfSome};
 ghost use Rattle.ck_io.specs.Contents.{IsLonger, IsTold, SameContents};
 ghost use Rattle.ck_io.specs.Faults.{Rose, NoneFell};
-ghost use Rattle.ck_tool.specs.Outcome.{Answers, AreTold, NoneFailed, Outcome, Ran, ReadFailed, TokensOf, UsageExactly, Wanted, WantedMemory, output as output_of, sunk};
-ghost use Rattle.ck_tool.specs.Stops.{IsFound, IsStopOfRead, IsStopOfTokens, ReadOfTokensFailed};
-ghost use Rattle.ck_tool.specs.Tells.{Explains};
+ghost use Rattle.rex_model.specs.RuleMeaning.{rules_of};
+ghost use Rattle.ck_tool.specs.Outcome.{Outcome, Makes};
+ghost use Rattle.ck_tool.specs.Ran.{Answers, NoneFailed, Ran, UsageExactly, WantedMemory, WritesOnlyDone, sunk};
+ghost use Rattle.ck_tool.specs.Wanted.{AreTold, ReadFailed, Wanted};
 ghost use Rattle.ck_tool.specs.Words.{AreRight};
+ghost use Rattle.ck_tool.specs.within.Places.{NameTokens};
+ghost use Rattle.ck_tool.specs.within.Stops.{Explains, IsAsked, IsStopOfRead, answer_in};
 
 use crate::reader::read_rules;
+use crate::stage::Stage;
 use crate::stop::Stop;
 use crate::telling::tell;
 use crate::token_text::tokens_text;
@@ -14,6 +18,7 @@ use crate::words::{Command, command_of};
 use bumpalo::Bump;
 use ck_base::{MEMORY_LINE, NoMemory, READ_LINE, Refusal, Status, USAGE_LINE, WRITE_LINE};
 use ck_io::{Files, LoadError, Sink, load, put_all};
+use rex_model::ScanRules;
 use std::alloc::Global;
 
 /// A specification has at most this many bytes.
@@ -38,19 +43,20 @@ pub fn cocktail<F: Files, O: Sink, E: Sink>(
     err: &mut E,
 ) -> Status
     ensures run { let texts = map string_bytes words.now.items in
-        let to_out = sunk (O.written out.old) (O.written out.new) (O.faults out.old) (O.faults out.new) in
-        let to_err = sunk (E.written err.old) (E.written err.new) (E.faults err.old) (E.faults err.new) in
-        let read_failed = ReadFailed (F.contents files.old) texts (F.faults files.old) (F.faults files.new) in
+        let read_failed = ReadFailed F.contents F.faults texts files.old files.new in
+        let to_out = sunk O.written O.faults out.old out.new in
+        let to_err = sunk E.written E.faults err.old err.new in
         Ran texts (Wanted (F.contents files.old) texts) read_failed to_out to_err result }
     ensures exactly { let texts = map string_bytes words.now.items in
-        let to_out = sunk (O.written out.old) (O.written out.new) (O.faults out.old) (O.faults out.new) in
-        let to_err = sunk (E.written err.old) (E.written err.new) (E.faults err.old) (E.faults err.new) in
-        let read_failed = ReadFailed (F.contents files.old) texts (F.faults files.old) (F.faults files.new) in
+        let read_failed = ReadFailed F.contents F.faults texts files.old files.new in
+        let to_out = sunk O.written O.faults out.old out.new in
+        let to_err = sunk E.written E.faults err.old err.new in
         AreTold (F.contents files.old) texts → NoneFailed read_failed to_out to_err
         → (answer : Outcome) → Wanted (F.contents files.old) texts answer
         → Answers answer to_out to_err result ⊎ WantedMemory texts to_out to_err result }
-    ensures usage { let to_err = sunk (E.written err.old) (E.written err.new) (E.faults err.old) (E.faults err.new) in
+    ensures usage { let to_err = sunk E.written E.faults err.old err.new in
         UsageExactly (map string_bytes words.now.items) to_err result }
+    ensures output { WritesOnlyDone (sunk O.written O.faults out.old out.new) result }
     ensures same { SameContents (F.contents files.old) (F.contents files.new) }
     ensures later { NoneFell (F.faults files.old) (F.faults files.new) }
 {
@@ -63,12 +69,10 @@ pub fn cocktail<F: Files, O: Sink, E: Sink>(
 
 /// The output that the command asks for, or why there is none.
 fn answer_of<F: Files>(alloc: Global, command: Command, files: &mut F) -> Result<Vec<u8>, Stop>
-    ensures output { IfOk result (λ bytes. TokensOf (F.contents files.old command.entry.spec.now)
-        (F.contents files.old command.entry.source.now) (output_of bytes.items)) }
-    ensures stop { IfErr result (IsStopOfTokens (F.contents files.old command.entry.spec.now)
-        (F.contents files.old command.entry.source.now)
-        (ReadOfTokensFailed (F.contents files.old) command.entry.spec.now command.entry.source.now
-        (F.faults files.old) (F.faults files.new))) }
+    ensures answer { (words : List (List ℕ)) → IsAsked words command.entry
+        → IfSome (answer_in result) (Wanted (F.contents files.old) words) }
+    ensures fault { (words : List (List ℕ)) → IsAsked words command.entry
+        → result ≡ Err Stop.ReadFault → ReadFailed F.contents F.faults words files.old files.new }
     ensures same { SameContents (F.contents files.old) (F.contents files.new) }
     ensures later { NoneFell (F.faults files.old) (F.faults files.new) }
 {
@@ -82,7 +86,20 @@ fn answer_of<F: Files>(alloc: Global, command: Command, files: &mut F) -> Result
         SOURCE_LIMIT,
         Refusal::SourceTooLong,
     )?;
-    tokens_text(alloc, &rules, source.as_slice())
+    make(alloc, command.stage, &rules, source.as_slice())
+}
+
+/// What the stage makes of the source, or why it is refused.
+fn make(alloc: Global, stage: Stage, rules: &ScanRules, source: &[u8]) -> Result<Vec<u8>, Stop>
+    requires few { length rules.now.rules.items < 2 ^ 32 }
+    requires named { NameTokens rules.now }
+    requires small { length source.now + 1 < 2 ^ 32 }
+    ensures answer { IfSome (answer_in result) (Makes stage (rules_of rules.now) source.now) }
+    ensures reads_nothing { result ≢ Err Stop.ReadFault }
+{
+    match stage {
+        Stage::Tokens => tokens_text(alloc, rules, source),
+    }
 }
 
 /// All bytes of the file; `too_long` where it has more than `limit`.
@@ -117,10 +134,8 @@ fn finish<O: Sink, E: Sink>(
     err: &mut E,
 ) -> Status
     ensures { (words : List (List ℕ)) → AreRight words
-        → Ran words (IsFound found) (found ≡ Err Stop.ReadFault)
-        (sunk (O.written out.old) (O.written out.new) (O.faults out.old) (O.faults out.new))
-        (sunk (E.written err.old) (E.written err.new) (E.faults err.old) (E.faults err.new))
-        result }
+        → Ran words (λ answer. answer_in found ≡ Some answer) (found ≡ Err Stop.ReadFault)
+        (sunk O.written O.faults out.old out.new) (sunk E.written E.faults err.old err.new) result }
 {
     match found {
         Ok(output) => match put_all(out, output.as_slice()) {
@@ -133,9 +148,7 @@ fn finish<O: Sink, E: Sink>(
 
 /// Puts the line that says why there is no output.
 fn explain<E: Sink>(alloc: Global, stop: Stop, err: &mut E) -> Status
-    ensures { Explains stop
-        (sunk (E.written err.old) (E.written err.new) (E.faults err.old) (E.faults err.new))
-        result }
+    ensures { Explains stop (sunk E.written E.faults err.old err.new) result }
 {
     match stop {
         Stop::Refused(refusal) => match refusal.line(alloc) {

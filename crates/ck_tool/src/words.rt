@@ -1,25 +1,34 @@
 ghost use Rattle.std.specs.Prelude.{◌↔◌, IsTrue, MatchOption, map, string_bytes};
-ghost use Rattle.ck_tool.specs.Words.{IsFileName, AreTokens, AreRight};
+ghost use Rattle.ck_tool.specs.Words.{IsFileName, AreRight};
+ghost use Rattle.ck_tool.specs.within.Stops.{IsAsked};
 
-/// What right words ask for: the tokens of the source by the specification. Both are names of files.
+use crate::stage::{Stage, stage_of};
+
+/// What right words ask for: a stage, of the source by the specification. Both are names of files.
 #[derive(Clone, Copy)]
 pub(crate) struct Command<'w> {
+    pub(crate) stage: Stage,
     pub(crate) spec: &'w str,
     pub(crate) source: &'w str,
 }
 
 /// The command of these words, where they are right.
 pub(crate) fn command_of(words: &Vec<String>) -> Option<Command>
-    ensures { let all = map string_bytes words.now.items in
-        MatchOption result (AreRight all → ⊥) (λ command. AreTokens all command.spec.now command.source.now) }
+    ensures { let texts = map string_bytes words.now.items in
+        MatchOption result (AreRight texts → ⊥) (IsAsked texts) }
 {
     let [command, spec, source] = words.as_slice() else {
         return None;
     };
+    let stage = stage_of(command.as_str())?;
     let spec = spec.as_str();
     let source = source.as_str();
-    if command.as_str() == "tokens" && is_file_name(spec) && is_file_name(source) {
-        Some(Command { spec, source })
+    if is_file_name(spec) && is_file_name(source) {
+        Some(Command {
+            stage,
+            spec,
+            source,
+        })
     } else {
         None
     }

@@ -1,26 +1,29 @@
 mod Adding
 pub mod After
-mod AlikeExamples
-pub mod AlikeRules
 mod BestOfRules
+mod BestPair
 pub mod Comes
 mod ContextExamples
 pub mod EmptyWord
 mod Examples
 mod FirstOfParts
+mod FollowOfParts
 mod LongestBySets
+mod MeaningExamples
 pub mod Meanings
 mod MeaningsOfParts
+pub mod MeantRules
 mod MovesOfParts
 mod OneAnswer
 pub mod OneRun
 pub mod OneWinner
 pub mod PositionsToWords
 mod RunExamples
-mod ScanOfWinner
 mod ScannerExamples
+mod ScanOfWinner
 mod StepOfParts
 mod StepOfString
+mod TakersOfParts
 mod WinnerExamples
 pub mod Within
 pub mod WordsToPositions

@@ -3,7 +3,7 @@ use Rattle.std.proofs.Common.{◌≡◌, ℕ, ◌+◌, ◌<◌, ◌≤◌, ◌�
 use Rattle.std.proofs.lemmas.Bool.{cases_eq, cases_lt}
 use Rattle.ck_base.specs.BitSet.{BitSet, Has, IsEmpty, Adds}
 use Rattle.rex_model.specs.Language.{Re, Language}
-use Rattle.rex_model.specs.Longest.{IsLongest}
+use Rattle.rex_model.specs.within.Longest.{IsLongest}
 use Rattle.rex_model.specs.Positions.{Moves, Ends}
 use Rattle.rex_model.proofs.Comes.{Comes, position_before, position_after, ends_of_word, word_of_ends, none_longer}
 
@@ -80,12 +80,12 @@ module _ (r : Re) (text : List ℕ) where
         let (p, before_it, takes, follows) = position_before r text i q comes in
         moves.more q (p, (before.places p).1 before_it, takes, follows)
 
-    word_of_ended : ended ≡ true → Language r (take (i + 1) text)
+    pub word_of_ended : ended ≡ true → Language r (take (i + 1) text)
     word_of_ended is =
         let (p, has, takes, last) = ends.0 is in
         word_of_ends r text i within (p, (before.places p).0 has, takes, last)
 
-    ended_of_word : Language r (take (i + 1) text) → ended ≡ true
+    pub ended_of_word : Language r (take (i + 1) text) → ended ≡ true
     ended_of_word word =
         let (p, comes, takes, last) = ends_of_word r text i within word in
         ends.1 (p, (before.places p).1 comes, takes, last)

@@ -1,9 +1,9 @@
 -- The contracts leave one answer: of the longest word, and of a scan.
 use Rattle.std.proofs.Common.{◌≡◌, ℕ, List, drop, Option, Some, None, arith, refl}
 use Rattle.rex_model.specs.Language.{Re}
-use Rattle.rex_model.specs.Longest.{IsLongest}
+use Rattle.rex_model.specs.within.Longest.{IsLongest}
+use Rattle.rex_model.specs.Rules.{Rule}
 use Rattle.rex_model.specs.Run.{Scans, end, bad, token, skip}
-use Rattle.rex_model.specs.declared.rules.ScanRule.{ScanRule}
 use Rattle.rex_model.specs.declared.scan.Scan.{Scan}
 use Rattle.rex_model.proofs.OneRun.{none_at_end, same_winner}
 use Rattle.rex_model.proofs.OneWinner.{one_winner}
@@ -18,7 +18,7 @@ one_longest r text (Some m) (Some n) x y =
     cc
 
 -- a scan has one answer
-one_scan : (rules : List ScanRule) (text : List ℕ) (state at : ℕ) (a b : Scan)
+one_scan : (rules : List Rule) (text : List ℕ) (state at : ℕ) (a b : Scan)
     → Scans rules text state at a → Scans rules text state at b → a ≡ b
 one_scan rules text state at a b (end past) (end past2) = refl
 one_scan rules text state at a b (end past) (bad before none) = absurd (omega arith)

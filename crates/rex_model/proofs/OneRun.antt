@@ -1,12 +1,12 @@
 -- The tokens of a text are determined.
 use Rattle.std.proofs.Common.{◌≡◌, ℕ, ◌+◌, ◌≤◌, List, length, drop, Some, None, arith, refl, length-drop}
+use Rattle.rex_model.specs.Rules.{Rule}
 use Rattle.rex_model.specs.Winner.{Winner, next_state}
 use Rattle.rex_model.specs.Run.{Token, Ending, Tokens, end, bad, token, skip}
-use Rattle.rex_model.specs.declared.rules.ScanRule.{ScanRule}
 use Rattle.rex_model.proofs.OneWinner.{one_winner}
 
 -- there is no winner where the text ends
-pub none_at_end : (rules : List ScanRule) (text : List ℕ) (state at i n m : ℕ) → length text ≤ at
+pub none_at_end : (rules : List Rule) (text : List ℕ) (state at i n m : ℕ) → length text ≤ at
     → Winner rules state (drop at text) i n m → ⊥
 none_at_end rules text state at i n m past won =
     let some = won.candidate.some in
@@ -15,7 +15,7 @@ none_at_end rules text state at i n m past won =
     omega (arith, length-drop at text)
 
 -- two winners have the same rule and the same text
-pub same_winner : (rules : List ScanRule) (state : ℕ) (rest : List ℕ) (i n m j k l : ℕ)
+pub same_winner : (rules : List Rule) (state : ℕ) (rest : List ℕ) (i n m j k l : ℕ)
     (a : Winner rules state rest i n m) (b : Winner rules state rest j k l)
     → (a.candidate.rule ≡ b.candidate.rule) × (n ≡ k)
 same_winner rules state rest i n m j k l a b =
@@ -25,7 +25,7 @@ same_winner rules state rest i n m j k l a b =
     (cc, text)
 
 -- the tokens after one of two equal winners are those after the other
-pub same_after : (rules : List ScanRule) (text : List ℕ) (state at i n m j k l : ℕ)
+pub same_after : (rules : List Rule) (text : List ℕ) (state at i n m j k l : ℕ)
     (a : Winner rules state (drop at text) i n m) (b : Winner rules state (drop at text) j k l)
     (ts : List Token) (e : Ending)
     → Tokens rules text (next_state b.candidate.rule state) (at + k) ts e
@@ -35,7 +35,7 @@ same_after rules text state at i n m j k l a b ts e rest =
     rw (rule, length) rest
 
 -- the tokens from a place in a state on are determined
-pub one_run : (rules : List ScanRule) (text : List ℕ) (state at : ℕ) (ts us : List Token) (e f : Ending)
+pub one_run : (rules : List Rule) (text : List ℕ) (state at : ℕ) (ts us : List Token) (e f : Ending)
     → Tokens rules text state at ts e → Tokens rules text state at us f → (ts ≡ us) × (e ≡ f)
 one_run rules text state at ts us e f (end _ _ past) (end _ _ past2) = (refl, refl)
 one_run rules text state at ts us e f (end _ _ past) (bad _ _ before none) = absurd (omega arith)

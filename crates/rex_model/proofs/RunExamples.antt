@@ -1,14 +1,14 @@
 -- What a scan answers and how a run goes on, tried on cases that are worked by hand.
 use Rattle.std.proofs.Common.{◌≡◌, ℕ, zero, suc, ◌≤◌, List, [], ◌∷◌, length, refl, ap, arith, length-take}
 use Rattle.std.specs.Prelude.{codes}
+use Rattle.rex_model.specs.Rules.{Rule}
 use Rattle.rex_model.specs.Run.{Scans, Tokens, end, token, skip, finished}
 use Rattle.rex_model.specs.Winner.{Candidate, Winner, next_state}
-use Rattle.rex_model.specs.declared.rules.ScanRule.{ScanRule}
 use Rattle.rex_model.specs.declared.scan.Scan.TheVariants as scan
-use Rattle.rex_model.proofs.WinnerExamples.{keyword, keyword_meaning, rule_of, rule_text, candidate_of, if_is_a_keyword, skipped_once, skipped_wins}
+use Rattle.rex_model.proofs.WinnerExamples.{keyword, plain_rule, rule_text, candidate_of, if_is_a_keyword, skipped_once, skipped_wins}
 
 -- a rule that names no state leaves it as it is
-state_stays : next_state (rule_of keyword 1) 7 ≡ 7
+state_stays : next_state (plain_rule keyword 1) 7 ≡ 7
 state_stays = refl
 
 -- the state that a rule names is the next one
@@ -16,14 +16,14 @@ state_is_named : next_state skipped_once 7 ≡ 1
 state_is_named = refl
 
 -- the keyword alone
-abbrev keywords : List ScanRule
-keywords = rule_of keyword 1 ∷ []
+abbrev keywords : List Rule
+keywords = plain_rule keyword 1 ∷ []
 
 -- it has two bytes, wherever it stands
 two_bytes : (rest : List ℕ) (j k l : ℕ) → Candidate keywords 0 rest j k l → l ≤ 2
 two_bytes rest zero k l c =
-    let (all, word) = rule_text keywords 0 rest 0 k l (rule_of keyword 1) refl refl c in
-    let is_if = rw keyword_meaning at word in
+    let (all, word) = rule_text keywords 0 rest 0 k l (plain_rule keyword 1) refl refl c in
+    let is_if = word in
     let two = ap length is_if in
     let shown = length-take k rest in
     let within = c.within in

@@ -3,13 +3,14 @@
 use Rattle.std.proofs.Common.{◌≡◌, ℕ, zero, suc, true, false, [], ◌∷◌, Some, None, length, refl, ap, subst, arith, inl, inr}
 use Rattle.std.specs.Prelude.{codes}
 use Rattle.ck_base.specs.BitSet.{BitSet, Has}
-use Rattle.rex_model.specs.Best.{IsBest, longer_of}
+use Rattle.rex_model.specs.within.Best.{IsBest, longer_of}
 use Rattle.rex_model.specs.Language.{none, bytes, class, sequence, alternative, star, plus, optional}
-use Rattle.rex_model.specs.Longest.{HasNoWord, IsLongest, IsLongestOfRule}
+use Rattle.rex_model.specs.within.Longest.{HasNoWord, IsLongest}
+use Rattle.rex_model.specs.within.Pairs.{IsAtMost, IsPairOfRule, better_of}
 use Rattle.rex_model.specs.Positions.{has_empty, Takes, First, Last, Follow, Moves, Ends}
 use Rattle.rex_model.specs.declared.winner.Best.{Best}
 use Rattle.rex_model.proofs.Examples.{only_a, only_b, a_then_bs, a_is_in, twice_ab, a_then_b, never_a}
-use Rattle.rex_model.proofs.WinnerExamples.{keyword, rule_of, keyword_first, longer_wins}
+use Rattle.rex_model.proofs.WinnerExamples.{keyword, plain_rule, keyword_first, longer_wins}
 
 -- a sequence has the empty word where both parts have it, alternatives where one has
 empties : (has_empty (sequence (star (class only_a)) (class only_b)) ≡ false)
@@ -83,20 +84,38 @@ empty_is_none (suc zero) some within (inl is) = (cc)
 empty_is_none (suc zero) some within (inr is) = (let two = ap length is in omega arith)
 empty_is_none (suc (suc m)) some within word = omega arith
 
--- a rule that isn't active has no text, whatever its words are
-inactive_has_none : IsLongestOfRule (rule_of keyword 1) 1 (codes "if") None
-inactive_has_none = λ active m some within word. omega arith
+-- a rule that isn't active has no pair, whatever its words are
+inactive_has_none : IsPairOfRule (plain_rule keyword 1) 1 (codes "if") None
+inactive_has_none = λ active n m pair. cc
 
--- a rule and the length of its text
+-- a text of two bytes with one behind it isn't better than one of three bytes: they end together
+shorter_text : IsAtMost 2 3 3 3
+shorter_text = inr (refl, omega arith)
+
+-- but it is better than one of two bytes alone
+not_at_most : IsAtMost 2 3 2 2 → ⊥
+not_at_most (inl less) = omega arith
+not_at_most (inr (same, less)) = omega arith
+
+-- of two texts that end together with their contexts the longer one is better
+later_text : better_of (Some (record { len = 1; whole = 3 })) 2 (Some 1) ≡ Some (record { len = 2; whole = 3 })
+later_text = refl
+
+-- one whose context ends before isn't
+earlier_end : better_of (Some (record { len = 1; whole = 3 })) 2 (Some 0) ≡ Some (record { len = 1; whole = 3 })
+earlier_end = refl
+
+-- a rule and its pair, without anything behind the text
 abbrev best : ℕ → ℕ → Best
-best rule len = record { rule = rule; len = len }
+best rule len = record { rule = rule; pair = record { len = len; whole = len } }
 
 -- of two equally long texts the one before stays
-earlier_stays : longer_of (Some (best 0 2)) 1 (Some 2) ≡ Some (best 0 2)
+earlier_stays : longer_of (Some (best 0 2)) 1 (Some (record { len = 2; whole = 2 })) ≡ Some (best 0 2)
 earlier_stays = refl
 
--- a longer one takes its place
-longer_comes : longer_of (Some (best 0 2)) 1 (Some 3) ≡ Some (best 1 3)
+-- what stands behind the text counts, too
+longer_comes : longer_of (Some (best 0 2)) 1 (Some (record { len = 1; whole = 3 }))
+    ≡ Some (record { rule = 1; pair = record { len = 1; whole = 3 } })
 longer_comes = refl
 
 -- a rule without a text changes nothing

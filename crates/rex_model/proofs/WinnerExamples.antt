@@ -1,78 +1,41 @@
 -- The rules of a scanner, tried on cases that are worked by hand: names and a keyword.
-use Rattle.std.proofs.Common.{◌≡◌, ℕ, zero, suc, Bool, ◌+◌, ◌-◌, ◌<◌, ◌≤◌, ◌^◌, List, [], ◌∷◌, length, take, drop, Some, None, slice_get, refl, ap, ◌∙◌, subst, arith, length-take, length-drop}
+use Rattle.std.proofs.Common.{◌≡◌, ℕ, zero, suc, Bool, ◌+◌, ◌-◌, ◌<◌, ◌≤◌, ◌==◌, ◌&&◌, nat_lt, IsTrue, List, [], ◌∷◌, length, take, drop, Some, None, slice_get, refl, ap, subst, arith, length-take, length-drop}
 use Rattle.std.specs.Prelude.{codes}
-use Rattle.std.specs.Borrow.{Bor}
-use Rattle.ck_base.specs.BitSet.{Has}
-use Rattle.rex_model.specs.Language.{none, bytes, class, sequence, alternative, star, plus, optional, IsIn, Repeats, no_more, one_more, Language}
-use Rattle.rex_model.specs.Meaning.{meaning, set_of}
+use Rattle.rex_model.specs.Language.{Re, bytes, class, plus, IsIn, Repeats, no_more, one_more, Language}
+use Rattle.rex_model.specs.Rules.{Rule, trailing}
 use Rattle.rex_model.specs.Run.{Tokens, end, bad, token, skip, finished, bad_at}
-use Rattle.rex_model.specs.Winner.{InContext, Candidate, Winner, HasNoCandidate}
-use Rattle.rex_model.specs.declared.regex.Regex.{Regex}
-use Rattle.rex_model.specs.declared.regex.Regex.TheVariants as regex
-use Rattle.rex_model.specs.declared.rules.ScanRule.{ScanRule}
-use Rattle.rex_model.proofs.Meanings.{meaning-Bytes, meaning-Class, meaning-Seq, meaning-Alt, meaning-Star, meaning-Plus, meaning-Opt}
+use Rattle.rex_model.specs.Winner.{Candidate, Winner, HasNoCandidate}
 
--- a reference to a value
-abbrev pub at : {X : Type 0} → X → Bor X
-at x = record { ref_ptr = (0, 0); now = x }
-
--- the class of the letters a to z: bits 97 to 122
-abbrev a_to_z : List ℕ
-a_to_z = 0 ∷ (2 ^ 59 - 2 ^ 33) ∷ 0 ∷ 0 ∷ []
-
--- the same as a set of bytes
+-- the letters a to z
 abbrev pub letters : ℕ → Bool
-letters = set_of a_to_z
+letters byte = nat_lt 96 byte && nat_lt byte 123
 
--- the expression of a name: one letter or more
-abbrev pub name : Regex
-name = regex.Plus (at (regex.Class a_to_z))
+-- a name: one letter or more
+abbrev pub name : Re
+name = plus (class letters)
 
--- the expression of a keyword
-abbrev pub keyword : Regex
-keyword = regex.Bytes (at (codes "if"))
-
--- a name is one or more letters
-pub name_meaning : meaning name ≡ plus (class letters)
-name_meaning = meaning-Plus (at (regex.Class a_to_z)) ∙ ap plus (meaning-Class a_to_z)
-
--- the keyword is "if"
-pub keyword_meaning : meaning keyword ≡ bytes (codes "if")
-keyword_meaning = meaning-Bytes (at (codes "if"))
-
--- two keywords, one after the other
-two_keywords : meaning (regex.Seq (at (keyword ∷ keyword ∷ [])))
-    ≡ sequence (bytes (codes "if")) (sequence (bytes (codes "if")) (bytes []))
-two_keywords = meaning-Seq (at (keyword ∷ keyword ∷ [])) ∙ rw keyword_meaning
-
--- a name as an option, the keyword as the only alternative, and any number of names
-forms : (meaning (regex.Opt (at name)) ≡ optional (plus (class letters)))
-    × (meaning (regex.Alt (at (keyword ∷ []))) ≡ alternative (bytes (codes "if")) none)
-    × (meaning (regex.Star (at name)) ≡ star (plus (class letters)))
-forms = (
-  meaning-Opt (at name) ∙ ap optional name_meaning,
-  meaning-Alt (at (keyword ∷ [])) ∙ rw keyword_meaning,
-  meaning-Star (at name) ∙ ap star name_meaning,
-)
+-- a keyword
+abbrev pub keyword : Re
+keyword = bytes (codes "if")
 
 -- a rule without context that is active in state 0
-abbrev pub rule_of : Regex → ℕ → ScanRule
-rule_of body number = record {
-  states = record { size = 1; words = 1 ∷ [] };
-  body = at body;
+abbrev pub plain_rule : Re → ℕ → Rule
+plain_rule body number = record {
+  active = λ state. state == 0;
+  body = body;
   context = None;
   token = Some number;
   next = None;
 }
 
 -- such a rule has a candidate where the text begins with one of its words
-unfoldable pub candidate_of : (rules : List ScanRule) (rest : List ℕ) (i number n : ℕ) (body : Regex)
-    → slice_get rules i ≡ Some (rule_of body number) → 0 < n → n ≤ length rest → Language (meaning body) (take n rest)
+unfoldable pub candidate_of : (rules : List Rule) (rest : List ℕ) (i number n : ℕ) (body : Re)
+    → slice_get rules i ≡ Some (plain_rule body number) → 0 < n → n ≤ length rest → Language body (take n rest)
     → Candidate rules 0 rest i n n
 candidate_of rules rest i number n body is_rule some within word = record {
-  rule = rule_of body number;
+  rule = plain_rule body number;
   is_rule = is_rule;
-  active = (omega arith, λ e. cc);
+  active = refl;
   some = some;
   fits = omega arith;
   within = within;
@@ -81,25 +44,25 @@ candidate_of rules rest i number n body is_rule some within word = record {
 }
 
 -- of a rule without context the candidate's text is all of it, and a word of the body
-pub rule_text : (rules : List ScanRule) (state : ℕ) (rest : List ℕ) (i n m : ℕ) (rule : ScanRule)
+pub rule_text : (rules : List Rule) (state : ℕ) (rest : List ℕ) (i n m : ℕ) (rule : Rule)
     → rule.context ≡ None → slice_get rules i ≡ Some rule → Candidate rules state rest i n m
-    → (n ≡ m) × Language (meaning rule.body.now) (take n rest)
+    → (n ≡ m) × Language rule.body (take n rest)
 rule_text rules state rest i n m rule plain is_rule c =
     let same : c.rule ≡ rule = cc in
-    let behind = subst (λ r. InContext r.context (take (m - n) (drop n rest))) same c.context in
-    let context = subst (λ x. InContext x (take (m - n) (drop n rest))) plain behind in
-    let word = subst (λ r. Language (meaning r.body.now) (take n rest)) same c.body in
+    let behind = subst (λ r. Language (trailing r.context) (take (m - n) (drop n rest))) same c.context in
+    let context = subst (λ x. Language (trailing x) (take (m - n) (drop n rest))) plain behind in
+    let word = subst (λ r. Language r.body (take n rest)) same c.body in
     let fits = c.fits in
     let within = c.within in
     (omega (arith, ap length context, length-take (m - n) (drop n rest), length-drop n rest), word)
 
 -- names, and then a keyword
-abbrev pub names_first : List ScanRule
-names_first = rule_of name 0 ∷ rule_of keyword 1 ∷ []
+abbrev pub names_first : List Rule
+names_first = plain_rule name 0 ∷ plain_rule keyword 1 ∷ []
 
 -- the keyword, and then names
-abbrev pub keyword_first : List ScanRule
-keyword_first = rule_of keyword 1 ∷ rule_of name 0 ∷ []
+abbrev pub keyword_first : List Rule
+keyword_first = plain_rule keyword 1 ∷ plain_rule name 0 ∷ []
 
 -- one of the letters before a word of letters
 letter : (b : ℕ) (w : List ℕ) → IsIn letters b → Repeats (Language (class letters)) w
@@ -119,12 +82,12 @@ y_is_in : IsIn letters 121
 y_is_in = (omega arith, refl)
 
 -- "if" is a name
-pub if_is_a_name : Language (meaning name) (codes "if")
-if_is_a_name = rw name_meaning (codes "i", codes "f", refl, (105, refl, i_is_in), letter 102 [] f_is_in no_more)
+pub if_is_a_name : Language name (codes "if")
+if_is_a_name = (codes "i", codes "f", refl, (105, refl, i_is_in), letter 102 [] f_is_in no_more)
 
 -- so is "iffy"
-iffy_is_a_name : Language (meaning name) (codes "iffy")
-iffy_is_a_name = rw name_meaning (
+iffy_is_a_name : Language name (codes "iffy")
+iffy_is_a_name = (
   codes "i",
   codes "ffy",
   refl,
@@ -133,8 +96,8 @@ iffy_is_a_name = rw name_meaning (
 )
 
 -- "if" is a keyword
-pub if_is_a_keyword : Language (meaning keyword) (codes "if")
-if_is_a_keyword = rw keyword_meaning refl
+pub if_is_a_keyword : Language keyword (codes "if")
+if_is_a_keyword = refl
 
 -- at "iffy" the keyword is a candidate
 keyword_is_a_candidate : Candidate names_first 0 (codes "iffy") 1 2 2
@@ -188,15 +151,15 @@ longer_wins = record {
   where
     not_the_keyword : (j k : ℕ) → Candidate keyword_first 0 (codes "iffy") j k 4 → 1 ≤ j
     not_the_keyword zero k c =
-        let (all, word) = rule_text keyword_first 0 (codes "iffy") 0 k 4 (rule_of keyword 1) refl refl c in
-        let four = subst (λ n. Language (meaning keyword) (take n (codes "iffy"))) all word in
-        let is_if = rw keyword_meaning at four in
+        let (all, word) = rule_text keyword_first 0 (codes "iffy") 0 k 4 (plain_rule keyword 1) refl refl c in
+        let four = subst (λ n. Language keyword (take n (codes "iffy"))) all word in
+        let is_if = four in
         (let e = is_if in cc)
     not_the_keyword (suc j) k c = omega arith
 
 -- a name that stands before "if"
-abbrev pub name_before_if : ScanRule
-name_before_if = record (rule_of name 0) { context = Some (at keyword) }
+abbrev pub name_before_if : Rule
+name_before_if = record (plain_rule name 0) { context = Some keyword }
 
 -- at "xif" its text is "x", and "if" is the context; "xif" without context is no candidate
 x_before_if : Winner (name_before_if ∷ []) 0 (codes "xif") 0 1 3
@@ -204,11 +167,11 @@ x_before_if = record {
   candidate = record {
     rule = name_before_if;
     is_rule = refl;
-    active = (omega arith, λ e. cc);
+    active = refl;
     some = omega arith;
     fits = omega arith;
     within = omega arith;
-    body = rw name_meaning (codes "x", [], refl, (120, refl, (omega arith, refl)), no_more);
+    body = (codes "x", [], refl, (120, refl, (omega arith, refl)), no_more);
     context = if_is_a_keyword;
   };
   longest = λ j k l c. c.within;
@@ -219,8 +182,8 @@ x_before_if = record {
     text_is_x : (k m : ℕ) → Candidate (name_before_if ∷ []) 0 (codes "xif") 0 k m → (k ≤ 1) × (m ≡ k + 2)
     text_is_x k m c =
         let same : c.rule ≡ name_before_if = cc in
-        let word = subst (λ r. InContext r.context (take (m - k) (drop k (codes "xif")))) same c.context in
-        let is_if = rw keyword_meaning at word in
+        let word = subst (λ r. Language (trailing r.context) (take (m - k) (drop k (codes "xif")))) same c.context in
+        let is_if = word in
         let fits = c.fits in
         let within = c.within in
         let two = ap length is_if in
@@ -238,8 +201,8 @@ bad_without_rules : Tokens [] (codes "if") 0 0 [] (bad_at 0)
 bad_without_rules = bad 0 0 (omega arith) (λ i n m c. let e = c.is_rule in cc)
 
 -- the keyword, skipped, and once only: state 1 comes after it, in which it isn't active
-abbrev pub skipped_once : ScanRule
-skipped_once = record (rule_of keyword 1) { token = None; next = Some 1 }
+abbrev pub skipped_once : Rule
+skipped_once = record (plain_rule keyword 1) { token = None; next = Some 1 }
 
 -- at "ifif" its text is "if"
 unfoldable pub skipped_wins : Winner (skipped_once ∷ []) 0 (codes "ifif") 0 2 2
@@ -247,7 +210,7 @@ skipped_wins = record {
   candidate = record {
     rule = skipped_once;
     is_rule = refl;
-    active = (omega arith, λ e. cc);
+    active = refl;
     some = omega arith;
     fits = omega arith;
     within = omega arith;
@@ -262,7 +225,7 @@ skipped_wins = record {
     length_is_two : (j k l : ℕ) → Candidate (skipped_once ∷ []) 0 (codes "ifif") j k l → l ≤ 2
     length_is_two zero k l c =
         let (all, word) = rule_text (skipped_once ∷ []) 0 (codes "ifif") 0 k l skipped_once refl refl c in
-        let is_if = rw keyword_meaning at word in
+        let is_if = word in
         let two = ap length is_if in
         let shown = length-take k (codes "ifif") in
         let within = c.within in
@@ -277,6 +240,6 @@ bad_second = skip 0 0 0 2 2 [] (bad_at 2) skipped_wins refl (bad 1 2 (omega arit
     not_active : HasNoCandidate (skipped_once ∷ []) 1 (codes "if")
     not_active zero n m c =
         let same : c.rule ≡ skipped_once = cc in
-        let active = subst (λ r. Has r.states 1) same c.active in
-        (omega arith)
+        let active = subst (λ r. IsTrue (r.active 1)) same c.active in
+        cc
     not_active (suc j) n m c = (let e = c.is_rule in cc)

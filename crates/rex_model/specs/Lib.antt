@@ -1,9 +1,14 @@
-pub mod Alike
-pub mod Best
 pub mod Language
-pub mod Longest
 pub mod Meaning
 pub mod Place
 pub mod Positions
+pub mod RuleMeaning
+pub mod Rules
 pub mod Run
+pub mod Runs
+pub mod ScanSets
+pub mod Sets
+pub mod TableMeaning
+pub mod Tables
 pub mod Winner
+pub mod within

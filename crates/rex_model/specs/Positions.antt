@@ -2,9 +2,8 @@
 -- They are numbered from left to right, from a first number k on.
 use Rattle.std.specs.Prelude.{◌≡◌, ℕ, ◌+◌, ◌<◌, ◌≤◌, ◌⊎◌, Bool, true, false, ◌&&◌, ◌||◌, List, [], ◌∷◌, length, IsTrue, All}
 use Rattle.ck_base.specs.BitSet.{BitSet, Has}
-use Rattle.rex_model.specs.declared.rules.ScanRule.{ScanRule}
 use Rattle.rex_model.specs.Language.{Re, none, bytes, class, sequence, alternative, star, plus, optional, IsIn}
-use Rattle.rex_model.specs.Meaning.{meaning}
+use Rattle.rex_model.specs.Rules.{Rule, trailing}
 
 -- how many positions there are: one for each byte of a string and one for each class
 abbrev pub position_count : Re → ℕ
@@ -87,6 +86,7 @@ Moves r k from byte q = (p : ℕ) × Has from p × Takes r k p byte × Follow r 
 abbrev pub Ends : Re → ℕ → BitSet → ℕ → Type 0
 Ends r k from byte = (p : ℕ) × Has from p × Takes r k p byte × Last r k p
 
--- a set of this size has room for the positions of each rule's body
-abbrev pub HasRoomFor : ℕ → List ScanRule → Type 0
-HasRoomFor size rules = All (λ rule. position_count (meaning rule.body.now) ≤ size) rules
+-- a set of this size has room for the positions of each rule's body, and for those of its context
+abbrev pub HasRoomFor : ℕ → List Rule → Type 0
+HasRoomFor size rules =
+    All (λ rule. (position_count rule.body ≤ size) × (position_count (trailing rule.context) ≤ size)) rules

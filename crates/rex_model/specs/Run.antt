@@ -1,12 +1,12 @@
 -- What one scan answers, and the tokens of a whole text.
 use Rattle.std.specs.Prelude.{◌≡◌, ℕ, ◌+◌, ◌<◌, ◌≤◌, List, [], ◌∷◌, length, drop, Some, None}
+use Rattle.rex_model.specs.Rules.{Rule}
 use Rattle.rex_model.specs.Winner.{Winner, HasNoCandidate, next_state}
-use Rattle.rex_model.specs.declared.rules.ScanRule.{ScanRule}
 use Rattle.rex_model.specs.declared.scan.Scan.{Scan}
 use Rattle.rex_model.specs.declared.scan.Scan.TheVariants as scan
 
 -- what a scan at a place in a state answers
-pub data Scans (rules : List ScanRule) (text : List ℕ) (state at : ℕ) : Scan → Type 0 where
+pub data Scans (rules : List Rule) (text : List ℕ) (state at : ℕ) : Scan → Type 0 where
   token : (i n m t : ℕ) (won : Winner rules state (drop at text) i n m) → won.candidate.rule.token ≡ Some t
       → Scans rules text state at (scan.Token i (at + n) (next_state won.candidate.rule state))
   skip : (i n m : ℕ) (won : Winner rules state (drop at text) i n m) → won.candidate.rule.token ≡ None
@@ -27,7 +27,7 @@ pub data Ending : Type 0 where
 
 -- the tokens from a place in a state on: the winners one after the other, without those that are
 -- skipped
-pub data Tokens (rules : List ScanRule) (text : List ℕ) : ℕ → ℕ → List Token → Ending → Type 0 where
+pub data Tokens (rules : List Rule) (text : List ℕ) : ℕ → ℕ → List Token → Ending → Type 0 where
   end : (state at : ℕ) → at ≡ length text → Tokens rules text state at [] finished
   bad : (state at : ℕ) → at < length text → HasNoCandidate rules state (drop at text)
       → Tokens rules text state at [] (bad_at at)

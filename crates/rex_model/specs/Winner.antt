@@ -1,43 +1,34 @@
 -- Candidates at a place in a state, and the winner among them.
-use Rattle.std.specs.Prelude.{◌≡◌, ℕ, ◌-◌, ◌<◌, ◌≤◌, List, [], length, take, drop, Option, Some, None, slice_get}
-use Rattle.std.specs.Borrow.{Bor}
-use Rattle.ck_base.specs.BitSet.{Has}
+use Rattle.std.specs.Prelude.{◌≡◌, ℕ, ◌-◌, ◌<◌, ◌≤◌, IsTrue, List, length, take, drop, Option, Some, None, slice_get}
 use Rattle.rex_model.specs.Language.{Language}
-use Rattle.rex_model.specs.Meaning.{meaning}
-use Rattle.rex_model.specs.declared.regex.Regex.{Regex}
-use Rattle.rex_model.specs.declared.rules.ScanRule.{ScanRule}
-
--- the word may stand behind a token's text: it is in the context's language, and empty without one
-abbrev pub InContext : Option (Bor Regex) → List ℕ → Type 0
-InContext None word = word ≡ []
-InContext (Some context) word = Language (meaning context.now) word
+use Rattle.rex_model.specs.Rules.{Rule, trailing}
 
 -- rule i has a candidate at the beginning of `rest`: its text is the first n bytes, and text and
 -- context together are the first m
-pub record Candidate (rules : List ScanRule) (state : ℕ) (rest : List ℕ) (i n m : ℕ) : Type 0 where
-  pub rule : ScanRule
+pub record Candidate (rules : List Rule) (state : ℕ) (rest : List ℕ) (i n m : ℕ) : Type 0 where
+  pub rule : Rule
   pub is_rule : slice_get rules i ≡ Some rule
-  pub active : Has rule.states state
+  pub active : IsTrue (rule.active state)
   pub some : 0 < n
   pub fits : n ≤ m
   pub within : m ≤ length rest
-  pub body : Language (meaning rule.body.now) (take n rest)
-  pub context : InContext rule.context (take (m - n) (drop n rest))
+  pub body : Language rule.body (take n rest)
+  pub context : Language (trailing rule.context) (take (m - n) (drop n rest))
 
 -- the candidate that wins: the longest with its context, then of the first rule, then with the
 -- longest text
-pub record Winner (rules : List ScanRule) (state : ℕ) (rest : List ℕ) (i n m : ℕ) : Type 0 where
+pub record Winner (rules : List Rule) (state : ℕ) (rest : List ℕ) (i n m : ℕ) : Type 0 where
   pub candidate : Candidate rules state rest i n m
   pub longest : (j k l : ℕ) → Candidate rules state rest j k l → l ≤ m
   pub first : (j k : ℕ) → Candidate rules state rest j k m → i ≤ j
   pub greatest : (k : ℕ) → Candidate rules state rest i k m → k ≤ n
 
 -- no rule has a candidate at the beginning of `rest`
-abbrev pub HasNoCandidate : List ScanRule → ℕ → List ℕ → Type 0
+abbrev pub HasNoCandidate : List Rule → ℕ → List ℕ → Type 0
 HasNoCandidate rules state rest = (i n m : ℕ) → Candidate rules state rest i n m → ⊥
 
 -- the state after a text of the rule: the one that it names, else the same
-abbrev pub next_state : ScanRule → ℕ → ℕ
+abbrev pub next_state : Rule → ℕ → ℕ
 next_state rule state = state_or rule.next state
   where
     state_or : Option ℕ → ℕ → ℕ

@@ -1,5 +1,5 @@
 ghost use Rattle.std.specs.Prelude.{◌≡◌, ℕ, List};
-ghost use Rattle.rex_model.specs.Alike.{AreAlike};
+ghost use Rattle.rex_model.specs.RuleMeaning.{rules_of};
 ghost use Rattle.rex_model.specs.Run.{Token, Ending, Tokens};
 ghost use Rattle.rex_model.specs.Winner.{Winner};
 
@@ -8,19 +8,13 @@ use crate::rules::ScanRules;
 /// Law: at a place and in a state there is at most one winner.
 pub fn at_most_one_winner(rules: &ScanRules, state: u32, rest: &[u8])
     ensures { (i n m j k l : ℕ) →
-        Winner rules.now.rules.items state rest.now i n m → Winner rules.now.rules.items state rest.now j k l →
-        (i ≡ j) × (n ≡ k) × (m ≡ l) }
+        Winner (rules_of rules.now).list state rest.now i n m →
+        Winner (rules_of rules.now).list state rest.now j k l → (i ≡ j) × (n ≡ k) × (m ≡ l) }
 {}
 
 /// Law: from a place and a state on, the tokens of a text and how they end are determined.
 pub fn at_most_one_run(rules: &ScanRules, text: &[u8], state: u32, at: usize)
     ensures { (ts us : List Token) (e f : Ending) →
-        Tokens rules.now.rules.items text.now state at ts e → Tokens rules.now.rules.items text.now state at us f →
-        (ts ≡ us) × (e ≡ f) }
-{}
-
-/// Law: rules that say the same give a text the same tokens, wherever their expressions lie.
-pub fn alike_rules_scan_alike(a: &ScanRules, b: &ScanRules, text: &[u8], state: u32, at: usize)
-    ensures { (ts : List Token) (e : Ending) → AreAlike a.now.rules.items b.now.rules.items →
-        Tokens a.now.rules.items text.now state at ts e → Tokens b.now.rules.items text.now state at ts e }
+        Tokens (rules_of rules.now).list text.now state at ts e →
+        Tokens (rules_of rules.now).list text.now state at us f → (ts ≡ us) × (e ≡ f) }
 {}

@@ -1,5 +1,5 @@
 ghost use Rattle.std.specs.Prelude.{◌≡◌, ◌^◌, ◌<◌, ◌≤◌};
-ghost use Rattle.rex_model.specs.Longest.{IsLongest};
+ghost use Rattle.rex_model.specs.within.Longest.{IsLongest};
 ghost use Rattle.rex_model.specs.Meaning.{meaning};
 ghost use Rattle.rex_model.specs.Positions.{position_count};
 

@@ -1,28 +1,27 @@
-ghost use Rattle.std.specs.Prelude.{◌≡◌, ◌+◌, ◌^◌, ◌<◌, ◌≤◌, length, IfOk, All, IsSome, None};
-ghost use Rattle.rex_model.specs.Best.{IsBest, longer_of};
-ghost use Rattle.rex_model.specs.Longest.{IsLongestOfRule};
-ghost use Rattle.rex_model.specs.Meaning.{meaning};
-ghost use Rattle.rex_model.specs.Positions.{position_count, HasRoomFor};
+ghost use Rattle.std.specs.Prelude.{◌≡◌, ◌+◌, ◌^◌, ◌<◌, ◌≤◌, length, map, IfOk, IsSome, None};
+ghost use Rattle.rex_model.specs.Positions.{HasRoomFor};
+ghost use Rattle.rex_model.specs.RuleMeaning.{rule_of, rules_of};
 ghost use Rattle.rex_model.specs.Run.{Scans};
 ghost use Rattle.rex_model.specs.Winner.{next_state};
+ghost use Rattle.rex_model.specs.within.Best.{IsBest, longer_of};
 
-use crate::longest::longest;
+use crate::pairs::{Pair, pair_of_rule};
 use crate::position_sets::PositionSets;
 use crate::rules::{ScanRule, ScanRules};
 use crate::scan::Scan;
 use ck_base::NoMemory;
 use std::alloc::Global;
 
-/// A rule, numbered from 0, and how many bytes its text has.
+/// A rule, numbered from 0, and its best pair.
 #[derive(Clone, Copy)]
 struct Best {
     rule: u32,
-    len: usize,
+    pair: Pair,
 }
 
 /// What a scan of the text finds at the place `at` in the state, by sets of positions. At the text's
-/// end and past it this is `End`. No set is made for a body with 4,294,967,295 positions or more:
-/// the answer is `NoMemory`.
+/// end and past it this is `End`. No set is made for a body or a context with 4,294,967,295 positions
+/// or more: the answer is `NoMemory`.
 pub fn scan_sets(
     alloc: Global,
     rules: &ScanRules,
@@ -31,8 +30,7 @@ pub fn scan_sets(
     at: usize,
 ) -> Result<Scan, NoMemory>
     requires few { length rules.now.rules.items < 2 ^ 32 }
-    requires plain { All (λ rule. rule.context ≡ None) rules.now.rules.items }
-    ensures { IfOk result (λ scan. Scans rules.now.rules.items text.now state at scan) }
+    ensures { IfOk result (λ scan. Scans (rules_of rules.now).list text.now state at scan) }
 {
     let mut sets = PositionSets::new(alloc, rules)?;
     Ok(scan_with(&mut sets, rules, text, state, at))
@@ -47,9 +45,8 @@ pub fn scan_with(
     at: usize,
 ) -> Scan
     requires few { length rules.now.rules.items < 2 ^ 32 }
-    requires plain { All (λ rule. rule.context ≡ None) rules.now.rules.items }
-    requires room { HasRoomFor sets.old rules.now.rules.items }
-    ensures scan { Scans rules.now.rules.items text.now state at result }
+    requires room { HasRoomFor sets.old (rules_of rules.now).list }
+    ensures scan { Scans (rules_of rules.now).list text.now state at result }
     ensures same { sets.new ≡ sets.old }
 {
     if at >= text.len() {
@@ -59,7 +56,7 @@ pub fn scan_with(
         Some(best) => scan_of(
             &rules.rules[best.rule as usize],
             best.rule,
-            at + best.len,
+            at + best.pair.len,
             state,
         ),
         None => Scan::BadToken(at),
@@ -69,52 +66,33 @@ pub fn scan_with(
 /// The winner at the beginning of `rest`; `None` where no rule has a candidate.
 fn winner(sets: &mut PositionSets, rules: &[ScanRule], state: u32, rest: &[u8]) -> Option<Best>
     requires few { length rules.now < 2 ^ 32 }
-    requires plain { All (λ rule. rule.context ≡ None) rules.now }
-    requires room { HasRoomFor sets.old rules.now }
-    ensures best { IsBest rules.now state rest.now result }
+    requires room { HasRoomFor sets.old (map rule_of rules.now) }
+    ensures best { IsBest (map rule_of rules.now) state rest.now result }
     ensures same { sets.new ≡ sets.old }
 {
     let mut best = None;
     for (i, rule) in rules.iter().enumerate() {
-        let found = longest_of_rule(sets, rule, state, rest);
+        let found = pair_of_rule(sets, rule, state, rest);
         best = longer(best, i as u32, found);
     }
     best
 }
 
-/// How many bytes the longest text of the rule has; `None` where there is none, or the rule isn't
-/// active.
-fn longest_of_rule(
-    sets: &mut PositionSets,
-    rule: &ScanRule,
-    state: u32,
-    rest: &[u8],
-) -> Option<usize>
-    requires room { position_count (meaning rule.now.body.now) ≤ sets.old }
-    ensures longest { IsLongestOfRule rule.now state rest.now result }
-    ensures same { sets.new ≡ sets.old }
-{
-    if !rule.states.has(state) {
-        return None;
-    }
-    longest(rule.body, rest, &mut sets.from, &mut sets.to)
-}
-
-/// The longer of the best text so far and what the next rule found; of equals the first.
-fn longer(best: Option<Best>, rule: u32, found: Option<usize>) -> Option<Best>
+/// The best rule so far, or the next rule where its pair ends later; of equals the first.
+fn longer(best: Option<Best>, rule: u32, found: Option<Pair>) -> Option<Best>
     ensures { result ≡ longer_of best rule found }
 {
     match (best, found) {
         (best, None) => best,
-        (Some(best), Some(len)) if len <= best.len => Some(best),
-        (_, Some(len)) => Some(Best { rule, len }),
+        (Some(best), Some(pair)) if pair.whole <= best.pair.whole => Some(best),
+        (_, Some(pair)) => Some(Best { rule, pair }),
     }
 }
 
 /// What a scan answers where this rule wins in the state, and `to` is the place after its text.
 fn scan_of(rule: &ScanRule, number: u32, to: usize, state: u32) -> Scan
-    ensures token { IsSome rule.now.token → result ≡ Scan.Token number to (next_state rule.now state) }
-    ensures skip { rule.now.token ≡ None → result ≡ Scan.Skip number to (next_state rule.now state) }
+    ensures token { IsSome rule.now.token → result ≡ Scan.Token number to (next_state (rule_of rule.now) state) }
+    ensures skip { rule.now.token ≡ None → result ≡ Scan.Skip number to (next_state (rule_of rule.now) state) }
 {
     let state = rule.next.unwrap_or(state);
     match rule.token {

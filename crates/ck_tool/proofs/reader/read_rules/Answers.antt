@@ -1,8 +1,9 @@
 -- The lines between the sections declare the rules, and STD is the one state; or a fault is the first.
-use Rattle.std.proofs.Common.{◌+◌, ap}
+use Rattle.std.proofs.Common.{◌+◌, [], ◌∷◌, codes, ap, ◌∙◌}
+use Rattle.ck_base.specs.Numbered.{met}
 use Rattle.ck_tool.proofs.PassedOn.{passed_on}
 use Rattle.ck_tool.proofs.RulesSoFar.{fault_by_sections, fault_by_lines}
-use Rattle.ck_tool.proofs.TokensMet.{first_name}
+use Rattle.ck_tool.proofs.TokensMet.{same_rules}
 use Rattle.ck_tool.proofs.reader.read_rules.Goals as goal
 
 pub returns-clause-declared : goal.returns-clause-declared
@@ -13,9 +14,8 @@ returns-clause-declared c = let rules = c.in_ok-tokens.ensures.rules in record {
     sections = rw c.in_ok-lines.ensures.with_tokens at c.in_ok-between.ensures.sections;
     are_rules = rules.by_lines;
   };
-  states = first_name _ _ _ _ c.new-states.ensures c.in_ok-intern.ensures.number;
-  tokens = rules.met;
-  are_rules = rules.are_rules;
+  are_rules = same_rules _ _ _ _ (c.in_ok-intern.ensures.met ∙ ap (λ names. met names (codes "STD" ∷ [])) c.new-states.ensures)
+      rules.tokens (rules.are_rules []);
 }
 
 pub returns-in_err-between-clause-fault : goal.returns-in_err-between-clause-fault

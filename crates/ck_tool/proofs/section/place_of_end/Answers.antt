@@ -1,6 +1,6 @@
 -- The line here is the first END, or it isn't END.
 use Rattle.std.proofs.Common.{get_or, map}
-use Rattle.ck_tool.specs.Seen.{line_of}
+use Rattle.ck_tool.specs.within.Seen.{line_of}
 use Rattle.ck_tool.proofs.SectionsOfLines.{line_in_place, none_up_to, no_line}
 use Rattle.ck_tool.proofs.section.place_of_end.Goals as goal
 

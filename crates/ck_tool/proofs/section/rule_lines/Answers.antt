@@ -2,7 +2,7 @@
 use Rattle.std.proofs.Common.{◌≤◌, ◌+◌, length, map, sym, ap, ◌∙◌, refl}
 use Rattle.std.proofs.lemmas.List.{take-map, length-map}
 use Rattle.ck_tool.specs.Sections.{not_rex, no_end}
-use Rattle.ck_tool.specs.Seen.{line_of}
+use Rattle.ck_tool.specs.within.Seen.{line_of}
 use Rattle.ck_tool.proofs.SectionsOfLines.{no_lines, are_sections, fault_after_end, line_in_place}
 use Rattle.ck_tool.proofs.section.rule_lines.Goals as goal
 

@@ -1,4 +1,4 @@
-use Rattle.ck_tool.specs.Tells.{told, cut}
+use Rattle.ck_tool.specs.Ran.{told, cut}
 use Rattle.ck_tool.proofs.telling.tell.Goals as goal
 
 pub returns-in-Ok : goal.returns-in-Ok

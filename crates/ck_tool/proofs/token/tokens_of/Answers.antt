@@ -1,7 +1,7 @@
 -- Each turn takes one token; where nothing is left, the tokens are those of the line.
 use Rattle.std.proofs.Common.{◌∷◌, [], rules}
 use Rattle.std.proofs.lemmas.List.{map-append}
-use Rattle.ck_tool.specs.Seen.{seen}
+use Rattle.ck_tool.specs.within.Seen.{seen}
 use Rattle.ck_tool.proofs.TokenSteps.{one_token_more, no_more_tokens, no_token_left}
 use Rattle.ck_tool.proofs.token.tokens_of.Goals as goal
 

@@ -1,6 +1,6 @@
 -- The tokens so far stand before the rest.
 use Rattle.std.proofs.Common.{length, map}
-use Rattle.ck_tool.specs.Seen.{seen}
+use Rattle.ck_tool.specs.within.Seen.{seen}
 use Rattle.ck_tool.proofs.TokenSteps.{TokensSoFar}
 use Rattle.ck_tool.proofs.token.tokens_of.Given as goal
 

@@ -1,4 +1,5 @@
 use Rattle.std.proofs.Common.{◌++◌, ap, ◌∙◌, arith}
+use Rattle.ck_tool.specs.Outcome.{bad_token, printed}
 use Rattle.ck_tool.proofs.PrintedLine.{name_of_token, token_line_here, end_line_here}
 use Rattle.ck_tool.proofs.Walk.{gives_token, gives_none, gives_end, gives_bad, takes, passes, finishes, stops}
 use Rattle.ck_tool.proofs.token_text.tokens_text.Goals as goal
@@ -7,7 +8,7 @@ pub loop-rule-preserved-in-Token : goal.loop-rule-preserved-in-Token
 loop-rule-preserved-in-Token c =
     let rules = c.args.rules.now in
     let gives = gives_token _ _ _ _ _ _ _ c.in-Token.ensures.scan in
-    let named = name_of_token rules.rules.items rules.tokens _ c.in-Token.rule _ _ gives.is_rule gives.has_number c.name_of-name.ensures in
+    let named = name_of_token rules.rules.items rules.tokens _ c.in-Token.rule _ _ gives.is_rule gives.has_number c.token_name-name.ensures in
     let line = token_line_here rules.tokens _ _ _ gives.number c.in-Token.to c.loop-rule.invariant.0 named in
     let written = c.in_ok-push_token-in-Token.ensures ∙ ap (λ line. c.loop-rule.out.items ++ line) line in (
       c.forward-place.ensures.is_place,
@@ -21,18 +22,19 @@ loop-rule-preserved c =
     let next = c.forward-place-in-Skip.ensures in
     (next.is_place, rw next.at (passes _ _ _ _ _ _ _ _ c.loop-rule.invariant.1 gives), rw c.scan_with.ensures.same c.loop-rule.invariant.2)
 
-pub returns-in-End-clause-tokens : goal.returns-in-End-clause-tokens
-returns-in-End-clause-tokens c =
+pub returns-in-End-clause-answer : goal.returns-in-End-clause-answer
+returns-in-End-clause-answer c =
     let gives = gives_end _ _ _ _ c.loop-rule.invariant.0.within c.in-End.ensures.scan in
     let line = end_line_here _ _ c.loop-rule.invariant.0 gives.0 in
-    rw (c.in_ok-push_end-in-End.ensures, line) (finishes _ _ _ _ _ _ c.loop-rule.invariant.1 gives.1)
+    let (tokens, run, text) = finishes _ _ _ _ _ _ c.loop-rule.invariant.1 gives.1 in
+    rw (c.in_ok-push_end-in-End.ensures, line, text) (printed tokens run)
 
-pub returns-in-BadToken-clause-stop : goal.returns-in-BadToken-clause-stop
-returns-in-BadToken-clause-stop c =
+pub returns-in-BadToken-clause-answer : goal.returns-in-BadToken-clause-answer
+returns-in-BadToken-clause-answer c =
     let bad = gives_bad _ _ _ _ _ c.in-BadToken.ensures.scan in
-    let stopped = stops _ _ _ _ _ _ c.loop-rule.invariant.1 bad in
+    let (tokens, run) = stops _ _ _ _ _ _ c.loop-rule.invariant.1 bad in
     let is = c.loop-rule.invariant.0 in
-    (stopped.0, c.loop-rule.place.at, stopped.1, rw (is.line, is.column))
+    rw (is.line, is.column) (bad_token tokens c.loop-rule.place.at run)
 
 pub loop-rule-smaller-in-Token : goal.loop-rule-smaller-in-Token
 loop-rule-smaller-in-Token c =

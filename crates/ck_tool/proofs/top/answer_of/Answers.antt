@@ -1,71 +1,85 @@
 -- Each step gives the answer, or the next one its input.
 use Rattle.std.proofs.Common.{refl}
-use Rattle.std.proofs.lemmas.Result.{IfOk-weaker, IfErr-weaker}
-use Rattle.ck_tool.specs.Outcome.{Accepts, reads_spec, reads_source}
-use Rattle.ck_tool.specs.Stops.{ReadOfTokensFailed}
-use Rattle.ck_tool.proofs.AnswerOfTokens.{rose_before, stop_at_spec, stop_at_fault, stop_at_source, stop_of_scan, output_of_scan}
-use Rattle.ck_tool.proofs.PassedOn.{passed_on}
-use Rattle.ck_tool.proofs.ScannedRules.{are_plain, have_names}
+use Rattle.rex_model.specs.RuleMeaning.{rules_of}
+use Rattle.ck_tool.specs.Accepts.{Accepts}
+use Rattle.ck_tool.specs.Wanted.{ReadFailed, Wanted}
+use Rattle.ck_tool.proofs.AnswerOfRun.{rose_before, reads_spec, reads_source, stop_at_spec, stop_at_fault, stop_at_source, answer_of_stage, answer_of_stop, fault_of_stop}
+use Rattle.ck_tool.proofs.ScannedRules.{have_names}
 use Rattle.ck_tool.proofs.top.answer_of.Goals as goal
 
-pub returns-in_err-spec-clause-stop : goal.returns-in_err-spec-clause-stop
-returns-in_err-spec-clause-stop g c =
+pub returns-in_err-spec-clause-answer : goal.returns-in_err-spec-clause-answer
+returns-in_err-spec-clause-answer g c = λ words asked.
     let files = g.F.Files in
-    let spec = c.args.command.spec.now in
-    let failed = ReadOfTokensFailed (files.contents c.args.files.now) spec c.args.command.source.now
-    (files.faults c.args.files.now) (files.faults c.read.new.files) in
-    passed_on _ _ _ c.from_residual.ensures.1
-    (stop_at_spec _ _ failed _ _ _ refl (λ rose. (c.args.command.spec.now, reads_spec, rose)) c.in_err-spec.ensures.stop)
+    let told = files.contents c.args.files.now in
+    let failed = ReadFailed files.contents files.faults words c.args.files.now c.read.new.files in
+    answer_of_stop (Wanted told words) failed _ _ c.from_residual.ensures.1
+    (stop_at_spec told words _ _ _ asked failed _ _ _ refl
+    (λ rose. (c.args.command.spec.now, reads_spec told words _ _ _ asked, rose)) c.in_err-spec.ensures.stop)
 
-pub returns-in_err-rules-clause-stop : goal.returns-in_err-rules-clause-stop
-returns-in_err-rules-clause-stop g c =
+pub returns-in_err-spec-clause-fault : goal.returns-in_err-spec-clause-fault
+returns-in_err-spec-clause-fault g c = λ words asked.
+    let files = g.F.Files in
+    let told = files.contents c.args.files.now in
+    let failed = ReadFailed files.contents files.faults words c.args.files.now c.read.new.files in
+    fault_of_stop (Wanted told words) failed _ _ c.from_residual.ensures.1
+    (stop_at_spec told words _ _ _ asked failed _ _ _ refl
+    (λ rose. (c.args.command.spec.now, reads_spec told words _ _ _ asked, rose)) c.in_err-spec.ensures.stop)
+
+pub returns-in_err-rules-clause-answer : goal.returns-in_err-rules-clause-answer
+returns-in_err-rules-clause-answer g c = λ words asked.
+    let told = g.F.Files.contents c.args.files.now in
     let fault = rw c.as_slice.ensures.value at c.in_err-rules.ensures.fault in
-    passed_on _ _ _ c.from_residual-in_err-rules.ensures.1 (stop_at_fault _ _ _ _ _ c.in_ok-spec.ensures.all c.in_ok-spec.ensures.within fault)
+    answer_of_stop (Wanted told words) ⊥ _ _ c.from_residual-in_err-rules.ensures.1
+    (stop_at_fault told words _ _ _ asked _ _ c.in_ok-spec.ensures.all c.in_ok-spec.ensures.within fault)
 
-pub returns-in_err-source-clause-stop : goal.returns-in_err-source-clause-stop
-returns-in_err-source-clause-stop g c =
+pub returns-in_err-source-clause-answer : goal.returns-in_err-source-clause-answer
+returns-in_err-source-clause-answer g c = λ words asked.
+    let files = g.F.Files in
+    let told = files.contents c.args.files.now in
     let name = c.args.command.source.now in
-    let accepts : Accepts c.in_ok-spec.spec.items c.in_ok-rules.rules = record {
+    let accepts : Accepts c.in_ok-spec.spec.items (rules_of c.in_ok-rules.rules) = record {
       fits = c.in_ok-spec.ensures.within;
       declares = rw c.as_slice.ensures.value at c.in_ok-rules.ensures.declared;
     } in
     let stop = rw (c.in_ok-spec.ensures.same name) at c.in_err-source.ensures.stop in
-    let files = g.F.Files in
-    let failed = ReadOfTokensFailed (files.contents c.args.files.now) c.args.command.spec.now name
-    (files.faults c.args.files.now) (files.faults c.read-2.new.files) in
-    passed_on _ _ _ c.from_residual-in_err-source.ensures.1
-    (stop_at_source _ _ failed c.in_ok-spec.spec.items c.in_ok-rules.rules _ _ _ refl c.in_ok-spec.ensures.all accepts
+    let failed = ReadFailed files.contents files.faults words c.args.files.now c.read-2.new.files in
+    answer_of_stop (Wanted told words) failed _ _ c.from_residual-in_err-source.ensures.1
+    (stop_at_source told words _ _ _ asked _ _ c.in_ok-spec.ensures.all accepts failed _ _ _ refl
     (λ rose. (
       name,
-      reads_source c.in_ok-spec.spec.items c.in_ok-rules.rules c.in_ok-spec.ensures.all accepts,
+      reads_source told words _ _ _ asked _ _ c.in_ok-spec.ensures.all accepts,
       rose_before _ _ _ (c.in_ok-spec.ensures.later name) rose,
     )) stop)
 
-pub tokens_text-requires-clause-plain : goal.tokens_text-requires-clause-plain
-tokens_text-requires-clause-plain g c = are_plain _ _ _ c.in_ok-rules.ensures.declared.are_rules
-
-pub tokens_text-requires-clause-named : goal.tokens_text-requires-clause-named
-tokens_text-requires-clause-named g c = have_names _ _ _ c.in_ok-rules.ensures.declared.are_rules
-
-pub returns-clause-output : goal.returns-clause-output
-returns-clause-output g c =
-    let accepts : Accepts c.in_ok-spec.spec.items c.in_ok-rules.rules = record {
+pub returns-in_err-source-clause-fault : goal.returns-in_err-source-clause-fault
+returns-in_err-source-clause-fault g c = λ words asked.
+    let files = g.F.Files in
+    let told = files.contents c.args.files.now in
+    let name = c.args.command.source.now in
+    let accepts : Accepts c.in_ok-spec.spec.items (rules_of c.in_ok-rules.rules) = record {
       fits = c.in_ok-spec.ensures.within;
       declares = rw c.as_slice.ensures.value at c.in_ok-rules.ensures.declared;
     } in
-    let told = rw (c.in_ok-spec.ensures.same c.args.command.source.now) at c.in_ok-source.ensures.all in
-    IfOk-weaker c.tokens_text.result _ _ (λ text claim.
-    let scan = rw c.as_slice-2.ensures.value at claim in
-    output_of_scan _ _ ⊥ _ _ _ c.in_ok-spec.ensures.all accepts told c.in_ok-source.ensures.within text.items scan.0 scan.1 scan.2)
-    c.tokens_text.ensures.tokens
+    let stop = rw (c.in_ok-spec.ensures.same name) at c.in_err-source.ensures.stop in
+    let failed = ReadFailed files.contents files.faults words c.args.files.now c.read-2.new.files in
+    fault_of_stop (Wanted told words) failed _ _ c.from_residual-in_err-source.ensures.1
+    (stop_at_source told words _ _ _ asked _ _ c.in_ok-spec.ensures.all accepts failed _ _ _ refl
+    (λ rose. (
+      name,
+      reads_source told words _ _ _ asked _ _ c.in_ok-spec.ensures.all accepts,
+      rose_before _ _ _ (c.in_ok-spec.ensures.later name) rose,
+    )) stop)
 
-pub returns-clause-stop : goal.returns-clause-stop
-returns-clause-stop g c =
-    let accepts : Accepts c.in_ok-spec.spec.items c.in_ok-rules.rules = record {
+pub make-requires-clause-named : goal.make-requires-clause-named
+make-requires-clause-named g c = have_names _ c.in_ok-rules.rules c.in_ok-rules.ensures.declared
+
+pub returns-clause-answer : goal.returns-clause-answer
+returns-clause-answer g c = λ words asked.
+    let told = g.F.Files.contents c.args.files.now in
+    let accepts : Accepts c.in_ok-spec.spec.items (rules_of c.in_ok-rules.rules) = record {
       fits = c.in_ok-spec.ensures.within;
       declares = rw c.as_slice.ensures.value at c.in_ok-rules.ensures.declared;
     } in
-    let told = rw (c.in_ok-spec.ensures.same c.args.command.source.now) at c.in_ok-source.ensures.all in
-    IfErr-weaker c.tokens_text.result _ _ (λ stop claim.
-    stop_of_scan _ _ _ _ _ _ c.in_ok-spec.ensures.all accepts told c.in_ok-source.ensures.within stop (rw c.as_slice-2.ensures.value at claim))
-    c.tokens_text.ensures.stop
+    let is = rw (c.in_ok-spec.ensures.same c.args.command.source.now) at c.in_ok-source.ensures.all in
+    let made = rw c.as_slice-2.ensures.value at c.make.ensures.answer in
+    answer_of_stage told words _ _ _ asked _ _ c.in_ok-spec.ensures.all accepts _ c.make.result is c.in_ok-source.ensures.within made

@@ -1,5 +1,5 @@
 use Rattle.std.proofs.Common.{◌-◌, ◌≤◌}
-use Rattle.ck_tool.specs.Places.{IsPlace}
+use Rattle.ck_tool.specs.within.Places.{IsPlace}
 use Rattle.ck_tool.proofs.place.Place.forward.Given as goal
 
 abbrev pub invariant-loop-place : goal.invariant-loop-place

@@ -1,0 +1,157 @@
+-- What a run is to answer, by what each of its steps found.
+use Rattle.std.proofs.Common.{◌≡◌, ℕ, ◌+◌, ◌<◌, ◌≤◌, List, [], ◌∷◌, ◌++◌, length, Option, Result, Vec, Ok, Err, None, Some, IfSome, refl, sym, arith}
+use Rattle.std.specs.Prelude.{replicate, IsErrAnd}
+use Rattle.std.specs.Global.{Global}
+use Rattle.std.proofs.lemmas.List.{length-replicate}
+use Rattle.ck_base.specs.declared.fault.SpecFault.{SpecFault}
+use Rattle.ck_base.specs.declared.fault.SpecFault.TheVariants as fault
+use Rattle.ck_base.specs.declared.refusal.Refusal.{Refusal}
+use Rattle.ck_base.specs.declared.refusal.Refusal.TheVariants as refusal
+use Rattle.ck_io.specs.Contents.{IsTold, IsLonger}
+use Rattle.ck_io.specs.Faults.{Rose}
+use Rattle.rex_model.specs.Rules.{Rules}
+use Rattle.ck_tool.specs.Accepts.{RefusesSpec, faulty, Accepts}
+use Rattle.ck_tool.specs.Outcome.{Outcome, refused, Makes, AnswerOf, makes}
+use Rattle.ck_tool.specs.Wanted.{Settles, by_words, by_spec, by_source, no_files, one_more, Wanted, Reads}
+use Rattle.ck_tool.specs.Words.{AreOfStage, of_stage}
+use Rattle.ck_tool.specs.within.RulesOfLines.{IsFaultOf}
+use Rattle.ck_tool.specs.within.Stops.{IsStopOfRead, answer_in, stop_of}
+use Rattle.ck_tool.specs.declared.stage.Stage.{Stage}
+use Rattle.ck_tool.specs.declared.stop.Stop.{Stop}
+use Rattle.ck_tool.specs.declared.stop.Stop.TheVariants.{Refused, ReadFault, NoMemory}
+use Rattle.ck_tool.proofs.OneOutcome.{refused_or_accepted}
+
+-- a file that has more bytes than the limit may hold some so long
+longer_bytes : (told : Option (List ℕ)) (limit : ℕ) → IsLonger told limit → (bytes : List ℕ) × IsTold told bytes × (limit < length bytes)
+longer_bytes None limit longer = (replicate (limit + 1) 0, tt, omega (arith, length-replicate {A = ℕ} (limit + 1) 0))
+longer_bytes (Some all) limit longer = (all, refl, longer)
+
+-- a count that rose later rose from the beginning
+pub rose_before : (old mid new : ℕ) → old ≤ mid → Rose mid new → Rose old new
+rose_before old mid new later rose = omega arith
+
+module _ (contents : List ℕ → Option (List ℕ)) (words : List (List ℕ)) (stage : Stage) (spec_name source_name : List ℕ)
+    (are : AreOfStage words stage spec_name source_name) where
+  -- the specification is read
+  pub reads_spec : Reads contents words spec_name
+  reads_spec = record {
+    before = [];
+    others = source_name ∷ [];
+    files = [];
+    named = rw are.words_are refl;
+    hold = no_files;
+    unsettled = λ first rest same o settles. before_spec first rest o settles same;
+  }
+    where
+      before_spec : (first rest : List (List ℕ)) (o : Outcome) → Settles words first o → [] ≡ first ++ rest → ⊥
+      before_spec _ rest _ (by_words wrong) same = wrong (of_stage stage spec_name source_name are)
+      before_spec _ rest _ (by_spec _ _ _ spec r _ refuses) same = cc
+      before_spec _ rest _ (by_source _ _ _ spec source rules o _ accepts answers) same = cc
+
+  -- the specification refuses the run
+  pub wanted_of_spec : (spec : List ℕ) (r : Refusal) → IsTold (contents spec_name) spec → RefusesSpec spec r → Wanted contents words (refused r)
+  wanted_of_spec spec r is refuses = record {
+    names = spec_name ∷ [];
+    others = source_name ∷ [];
+    files = spec ∷ [];
+    named = rw are.words_are refl;
+    hold = one_more spec_name spec [] [] is no_files;
+    settles = by_spec stage spec_name source_name spec r are refuses;
+  }
+
+  module _ (spec : List ℕ) (rules : Rules) (spec_is_told : IsTold (contents spec_name) spec) (accepts : Accepts spec rules) where
+    -- the source is read
+    pub reads_source : Reads contents words source_name
+    reads_source = record {
+      before = spec_name ∷ [];
+      others = [];
+      files = spec ∷ [];
+      named = rw are.words_are refl;
+      hold = one_more spec_name spec [] [] spec_is_told no_files;
+      unsettled = λ first rest same o settles. before_source first rest o settles same;
+    }
+      where
+        before_source : (first rest : List (List ℕ)) (o : Outcome) → Settles words first o → spec ∷ [] ≡ first ++ rest → ⊥
+        before_source _ rest _ (by_words wrong) same = wrong (of_stage stage spec_name source_name are)
+        before_source _ rest _ (by_spec _ _ _ first r _ refuses) same =
+            let is : first ≡ spec = cc in
+            refused_or_accepted spec r rules (rw is at refuses) accepts
+        before_source _ rest _ (by_source _ _ _ first source others o _ its answers) same = cc
+
+    -- the source settles
+    pub wanted_of_source : (source : List ℕ) (o : Outcome) → IsTold (contents source_name) source → AnswerOf stage rules source o
+        → Wanted contents words o
+    wanted_of_source source o is answers = record {
+      names = spec_name ∷ source_name ∷ [];
+      others = [];
+      files = spec ∷ source ∷ [];
+      named = rw are.words_are refl;
+      hold = one_more spec_name spec _ _ spec_is_told (one_more source_name source [] [] is no_files);
+      settles = by_source stage spec_name source_name spec source rules o are accepts answers;
+    }
+
+-- what a stop says, where these answers are wanted and `failed` says that a read failed
+abbrev pub IsStop : (Outcome → Type 0) → Type 0 → Stop → Type 0
+IsStop wants failed (Refused r) = wants (refused r)
+IsStop wants failed ReadFault = failed
+IsStop wants failed NoMemory = Unit {0}
+
+-- the answer of a stop that `?` passes on is wanted
+pub answer_of_stop : (wants : Outcome → Type 0) (failed : Type 0) (found : Result (Vec ℕ Global) Stop) (stop : Stop)
+    → IsErrAnd found (λ other. other ≡ stop) → IsStop wants failed stop → IfSome (answer_in found) wants
+answer_of_stop wants failed (Ok bytes) stop is known = absurd is
+answer_of_stop wants failed (Err (Refused r)) stop is known = rw (sym is) at known
+answer_of_stop wants failed (Err ReadFault) stop is known = tt
+answer_of_stop wants failed (Err NoMemory) stop is known = tt
+
+-- and where it is for a read, a read failed
+pub fault_of_stop : (wants : Outcome → Type 0) (failed : Type 0) (found : Result (Vec ℕ Global) Stop) (stop : Stop)
+    → IsErrAnd found (λ other. other ≡ stop) → IsStop wants failed stop → found ≡ Err ReadFault → failed
+fault_of_stop wants failed (Ok bytes) stop is known fault = absurd is
+fault_of_stop wants failed (Err other) stop is known fault =
+    let same : stop ≡ ReadFault = cc in
+    rw same at known
+
+-- a file wasn't read
+stop_of_read : (wants : Outcome → Type 0) (failed : Type 0) (told : Option (List ℕ)) (limit : ℕ) (too_long : Refusal) (rose : Type 0) (stop : Stop)
+    → ((bytes : List ℕ) → IsTold told bytes → limit < length bytes → wants (refused too_long)) → (rose → failed)
+    → IsStopOfRead too_long (IsLonger told limit) rose stop → IsStop wants failed stop
+stop_of_read wants failed told limit too_long rose (Refused r) longer fails stop =
+    let (bytes, is, more) = longer_bytes told limit stop.1 in
+    rw stop.0 (longer bytes is more)
+stop_of_read wants failed told limit too_long rose ReadFault longer fails stop = fails stop
+stop_of_read wants failed told limit too_long rose NoMemory longer fails stop = tt
+
+module _ (contents : List ℕ → Option (List ℕ)) (words : List (List ℕ)) (stage : Stage) (spec_name source_name : List ℕ)
+    (are : AreOfStage words stage spec_name source_name) where
+  -- the specification wasn't read
+  pub stop_at_spec : (failed : Type 0) (limit : ℕ) (rose : Type 0) (stop : Stop) → limit ≡ 1048576 → (rose → failed)
+      → IsStopOfRead refusal.SpecTooLong (IsLonger (contents spec_name) limit) rose stop → IsStop (Wanted contents words) failed stop
+  stop_at_spec failed limit rose stop at fails is = stop_of_read (Wanted contents words) failed (contents spec_name) limit refusal.SpecTooLong rose stop
+      (λ bytes told longer. wanted_of_spec contents words stage spec_name source_name are bytes refusal.SpecTooLong told (RefusesSpec.too_long (omega arith)))
+      fails is
+
+  -- the specification has a fault
+  pub stop_at_fault : (spec : List ℕ) (found : SpecFault) → IsTold (contents spec_name) spec → length spec ≤ 1048576 → IsFaultOf spec found
+      → IsStop (Wanted contents words) ⊥ (stop_of found)
+  stop_at_fault spec (fault.Bad line kind) told fits is =
+      wanted_of_spec contents words stage spec_name source_name are spec (refusal.BadSpec line kind) told (faulty fits line kind is)
+  stop_at_fault spec fault.NoMemory told fits is = tt
+
+  module _ (spec : List ℕ) (rules : Rules) (told : IsTold (contents spec_name) spec) (accepts : Accepts spec rules) where
+    -- the source wasn't read
+    pub stop_at_source : (failed : Type 0) (limit : ℕ) (rose : Type 0) (stop : Stop) → limit ≡ 4194304 → (rose → failed)
+        → IsStopOfRead refusal.SourceTooLong (IsLonger (contents source_name) limit) rose stop → IsStop (Wanted contents words) failed stop
+    stop_at_source failed limit rose stop at fails is = stop_of_read (Wanted contents words) failed (contents source_name) limit refusal.SourceTooLong rose stop
+        (λ bytes is_source longer. wanted_of_source contents words stage spec_name source_name are spec rules told accepts bytes
+        (refused refusal.SourceTooLong) is_source (AnswerOf.too_long (omega arith))) fails is
+
+    -- the stage has its answer
+    pub answer_of_stage : (source : List ℕ) (found : Result (Vec ℕ Global) Stop) → IsTold (contents source_name) source → length source ≤ 4194304
+        → IfSome (answer_in found) (Makes stage rules source) → IfSome (answer_in found) (Wanted contents words)
+    answer_of_stage source found is_source fits = each (answer_in found)
+      where
+        each : (found : Option Outcome) → IfSome found (Makes stage rules source) → IfSome found (Wanted contents words)
+        each None made = tt
+        each (Some answer) made =
+            wanted_of_source contents words stage spec_name source_name are spec rules told accepts source answer is_source (makes answer fits made)
