@@ -1,7 +1,7 @@
 pub mod Counting
 mod Examples
 mod NameAdded
-mod NameFound
+pub mod NameFound
 pub mod NamesMet
 pub mod OrJoinsBits
 pub mod Representing

@@ -1,9 +1,10 @@
 -- What is told of files and sinks, and counts of faults, tried on cases that are worked by hand.
 use Rattle.std.proofs.Common.{◌≡◌, ◌≢◌, ℕ, zero, suc, ◌-◌, ◌^◌, inl, inr, lit<, false, List, [], ◌∷◌, length, slice_index, Some, None, unwrap_or, Ok, Err, codes, refl, ap, arith}
-use Rattle.ck_io.specs.Contents.{IsPart, part_len, ReadsAt, IsTold, IsLonger, FitsIn, SameContents, AddsFile, Appends}
+use Rattle.std.specs.Io.KnownBytes.{Appends}
+use Rattle.ck_io.specs.Contents.{IsPart, part_len, ReadsAt, IsTold, IsLonger, FitsIn, SameContents, AddsFile}
 use Rattle.ck_io.specs.Faults.{one_more, Rose, SameFaults, NoneFell}
 use Rattle.ck_io.specs.Folder.{File, has_name, place_in, bytes_at, bytes_in, with_file}
-use Rattle.ck_io.specs.MemFiles.{FilesInMemory, contents_of, faults_of, ShareCount, CountsFault, IsFailing}
+use Rattle.ck_io.specs.MemFiles.{FilesInMemory, contents_of, faults_of, ShareCount, CountsFault, IsFailingRead}
 use Rattle.ck_io.specs.MemSink.{SinkInMemory, taken_of}
 use Rattle.ck_io.specs.MemSink as sink
 use Rattle.ck_io.specs.NeverFails as never_fails
@@ -86,7 +87,7 @@ untold = tt
 
 -- bytes that were told are told afterwards
 forgotten : Appends (Some (codes "a")) None (codes "bc") → ⊥
-forgotten appends = cc
+forgotten appends = appends
 
 -- a file f with two faults; the names that are missing have one together
 abbrev memory : FilesInMemory
@@ -120,20 +121,20 @@ not_two : CountsFault memory (record memory { others = 3 }) (codes "g") → ⊥
 not_two counts = omega (arith, counts.counted (codes "g") refl)
 
 -- after three calls the next one is call 4
-next_fails : IsFailing (record memory { fails = 4 ∷ [] }) (codes "f")
+next_fails : IsFailingRead (record memory { fails = 4 ∷ [] }) (codes "f")
 next_fails = inl (0, lit< tt, refl)
 
-last_failed : IsFailing (record memory { fails = 3 ∷ [] }) (codes "f") → ⊥
+last_failed : IsFailingRead (record memory { fails = 3 ∷ [] }) (codes "f") → ⊥
 last_failed (inl (zero, within, is)) = cc
 last_failed (inl (suc k, within, is)) = omega arith
 last_failed (inr missing) = cc
 
 -- a missing file fails at each call
-missing_fails : IsFailing memory (codes "g")
+missing_fails : IsFailingRead memory (codes "g")
 missing_fails = inr refl
 
 -- where no read fails, a missing file is an empty one
-missing_is_empty : never_fails.contents_of memory.files (codes "g") ≡ Some []
+missing_is_empty : never_fails.contents_or_empty memory.files (codes "g") ≡ Some []
 missing_is_empty = refl
 
 -- a name is the whole of it
@@ -190,13 +191,13 @@ ample_room : (taken_of (record sink_of_4 { room = 99 }) (codes "cdefg") ≡ 3) �
 ample_room = (refl, refl)
 
 -- a put that takes a part of its piece is no failing one
-part_is_taken : sink.IsFailing sink_of_4 → ⊥
+part_is_taken : sink.IsFailingPut sink_of_4 → ⊥
 part_is_taken (inl (k, within, is)) = omega arith
 part_is_taken (inr full) = cc
 
 -- a put fails where no room is left, and where its number is one of those that fail
-full_fails : sink.IsFailing (record sink_of_4 { room = 2 })
+full_fails : sink.IsFailingPut (record sink_of_4 { room = 2 })
 full_fails = inr refl
 
-second_fails : sink.IsFailing (record sink_of_4 { fails = 2 ∷ [] })
+second_fails : sink.IsFailingPut (record sink_of_4 { fails = 2 ∷ [] })
 second_fails = inl (0, lit< tt, refl)

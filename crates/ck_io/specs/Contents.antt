@@ -1,5 +1,5 @@
 -- What the outside tells of a file's bytes and of a sink's, and what a read or a write does to it.
-use Rattle.std.specs.Prelude.{◌≡◌, ◌≢◌, ℕ, ◌-◌, ◌<◌, ◌≤◌, ◌↔◌, List, ◌++◌, length, min, take, drop, Option, Some, Result, IfOk, IfSome}
+use Rattle.std.specs.Prelude.{◌≡◌, ◌≢◌, ℕ, ◌-◌, ◌<◌, ◌≤◌, ◌↔◌, List, length, min, take, drop, Option, Some, Result, IfOk, IfSome}
 
 -- the first n bytes of `into` are those of the file `told` from byte `at` on, and n is 0 exactly at or past its end
 pub record IsPart (told : List ℕ) (at n : ℕ) (into : List ℕ) : Type 0 where
@@ -34,7 +34,3 @@ SameContents old new = (name : List ℕ) → new name ≡ old name
 pub record AddsFile (old new : List ℕ → Option (List ℕ)) (name bytes : List ℕ) : Type 0 where
   pub added : new name ≡ Some bytes
   pub others : (other : List ℕ) → other ≢ name → new other ≡ old other
-
--- a sink whose bytes are told has taken these bytes after the old ones
-abbrev pub Appends : Option (List ℕ) → Option (List ℕ) → List ℕ → Type 0
-Appends old new more = IfSome old (λ taken. new ≡ Some (taken ++ more))

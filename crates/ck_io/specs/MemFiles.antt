@@ -30,5 +30,5 @@ pub record CountsFault (old new : FilesInMemory) (name : List ℕ) : Type 0 wher
   pub others : (other : List ℕ) → (ShareCount old name other → ⊥) → faults_of new other ≡ faults_of old other
 
 -- the next read of this name fails: it is one of the calls that fail, or the file is missing
-abbrev pub IsFailing : FilesInMemory → List ℕ → Type 0
-IsFailing memory name = Contains memory.fails (one_more memory.calls) ⊎ (contents_of memory name ≡ None)
+abbrev pub IsFailingRead : FilesInMemory → List ℕ → Type 0
+IsFailingRead memory name = Contains memory.fails (one_more memory.calls) ⊎ (contents_of memory name ≡ None)

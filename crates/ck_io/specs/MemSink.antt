@@ -21,5 +21,5 @@ abbrev pub taken_of : SinkInMemory → List ℕ → ℕ
 taken_of sink piece = min (length piece) (min sink.per_call (room_left sink))
 
 -- the next put fails: it is one of the calls that fail, or no room is left
-abbrev pub IsFailing : SinkInMemory → Type 0
-IsFailing sink = Contains sink.fails (one_more sink.calls) ⊎ (room_left sink ≡ 0)
+abbrev pub IsFailingPut : SinkInMemory → Type 0
+IsFailingPut sink = Contains sink.fails (one_more sink.calls) ⊎ (room_left sink ≡ 0)

@@ -37,6 +37,3 @@ pub use never_fails::NeverFails;
 pub use putting::put_all;
 pub use sink::Sink;
 pub use std_sink::StdSink;
-
-#[cfg(test)]
-mod tests;

@@ -1,7 +1,7 @@
 ghost use Rattle.std.specs.Prelude.{◌≡◌, ◌<◌, ◌≤◌, ◌↔◌, ℕ, List, length, IfOk, IfSome, IsErr, OnOk, OnErr, None};
 ghost use Rattle.ck_io.specs.Contents.{AddsFile, ReadsAt, SameContents, part_len};
 ghost use Rattle.ck_io.specs.Faults.{one_more, SameFaults, NoneFell};
-ghost use Rattle.ck_io.specs.MemFiles.{contents_of, faults_of, CountsFault, IsFailing};
+ghost use Rattle.ck_io.specs.MemFiles.{contents_of, faults_of, CountsFault, IsFailingRead};
 
 use crate::calls::Calls;
 use crate::files::{Failed, Files};
@@ -90,9 +90,10 @@ impl Files for MemFiles {
         ensures kept { OnOk result (SameFaults (faults_of self.old) (faults_of self.new)) }
         ensures later { NoneFell (faults_of self.old) (faults_of self.new) }
 
-        // Beyond what all `Files` promise: which reads fail, how much a read gives, and whose count
-        // has one more.
-        ensures failing { IsErr result ↔ IsFailing self.old name.now }
+        // Beyond what all `Files` promise: which reads fail, that these leave the buffer, how much a
+        // read gives, and whose count has one more.
+        ensures failing { IsErr result ↔ IsFailingRead self.old name.now }
+        ensures left { OnErr result (into.new ≡ into.old) }
         ensures count { IfOk result (λ n. IfSome (contents_of self.old name.now)
             (λ all. n ≡ part_len all at (length into.old))) }
         ensures counted { OnErr result (CountsFault self.old self.new name.now) }

@@ -1,7 +1,7 @@
 ghost use Rattle.std.specs.Prelude.{◌≡◌, ◌<◌, ◌≤◌, ◌↔◌, [], ◌++◌, length, take, IfOk, IsErr, OnOk, OnErr, Some};
-ghost use Rattle.ck_io.specs.Contents.{Appends};
+ghost use Rattle.std.specs.Io.KnownBytes.{Appends};
 ghost use Rattle.ck_io.specs.Faults.{one_more, Rose};
-ghost use Rattle.ck_io.specs.MemSink.{taken_of, IsFailing};
+ghost use Rattle.ck_io.specs.MemSink.{taken_of, IsFailingPut};
 
 use crate::calls::Calls;
 use crate::files::Failed;
@@ -88,7 +88,7 @@ impl Sink for MemSink {
         ensures later { self.old.faults ≤ self.new.faults }
 
         // Beyond what all `Sink`s promise: which puts fail, and what a put leaves.
-        ensures failing { IsErr result ↔ IsFailing self.old }
+        ensures failing { IsErr result ↔ IsFailingPut self.old }
         ensures taken { IfOk result (λ n. n ≡ taken_of self.old bytes.now) }
         ensures ok { IfOk result (λ n. self.new ≡ record self.old {
           bytes = self.old.bytes ++ take n bytes.now;

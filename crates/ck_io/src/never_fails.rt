@@ -1,6 +1,6 @@
 ghost use Rattle.std.specs.Prelude.{◌≡◌, ◌<◌, ℕ, List, [], length, IfOk, IfSome, OnOk, OnErr, IsOk, Some};
 ghost use Rattle.ck_io.specs.Contents.{AddsFile, ReadsAt, part_len};
-ghost use Rattle.ck_io.specs.NeverFails.{contents_of};
+ghost use Rattle.ck_io.specs.NeverFails.{contents_or_empty};
 
 use crate::files::{Failed, Files};
 use crate::folder::{Folder, copy_part};
@@ -26,7 +26,7 @@ impl Model for NeverFails {
 impl NeverFails {
     /// No files yet.
     pub fn new(alloc: Global) -> NeverFails
-        ensures { (name : List ℕ) → contents_of result name ≡ Some [] }
+        ensures { (name : List ℕ) → contents_or_empty result name ≡ Some [] }
     {
         NeverFails {
             folder: Folder::new(alloc),
@@ -36,7 +36,7 @@ impl NeverFails {
     /// Gives the name these bytes, in place of any that it had.
     pub fn add(&mut self, name: &str, bytes: &[u8]) -> Result<(), NoMemory>
         ensures added { OnOk result
-            (AddsFile (contents_of self.old) (contents_of self.new) name.now bytes.now) }
+            (AddsFile (contents_or_empty self.old) (contents_or_empty self.new) name.now bytes.now) }
         ensures err { OnErr result (self.new ≡ self.old) }
     {
         self.folder.put(name, bytes)?;
@@ -45,18 +45,18 @@ impl NeverFails {
 }
 
 impl Files for NeverFails {
-    ghost contents = { contents_of };
+    ghost contents = { contents_or_empty };
 
     // A failed read would have to raise the count, so none fails.
     ghost faults = { λ _ _. 0 };
 
     fn read_at(&mut self, name: &str, at: u64, into: &mut [u8]) -> Result<usize, Failed>
         requires { 0 < length into.old }
-        ensures part { ReadsAt (contents_of self.old name.now) at result into.new }
+        ensures part { ReadsAt (contents_or_empty self.old name.now) at result into.new }
 
         // Beyond what all `Files` promise: no read fails, and each gives as much as fits.
         ensures never { IsOk result }
-        ensures count { IfOk result (λ n. IfSome (contents_of self.old name.now)
+        ensures count { IfOk result (λ n. IfSome (contents_or_empty self.old name.now)
             (λ all. n ≡ part_len all at (length into.old))) }
         ensures same { self.new ≡ self.old }
     {

@@ -1,5 +1,5 @@
 ghost use Rattle.std.specs.Prelude.{◌≡◌, ℕ, ◌<◌, ◌≤◌, List, length, take, Option, IfOk, OnErr};
-ghost use Rattle.ck_io.specs.Contents.{Appends};
+ghost use Rattle.std.specs.Io.KnownBytes.{Appends};
 ghost use Rattle.ck_io.specs.Faults.{Rose};
 
 use crate::files::Failed;

@@ -4,7 +4,7 @@ use Rattle.ck_base.specs.Lines.{line_of, status_of}
 use Rattle.ck_base.specs.declared.refusal.Refusal.{Refusal}
 use Rattle.ck_base.specs.declared.status.Status.{Status}
 use Rattle.ck_base.specs.declared.status.Status.TheVariants.{Done, Usage, Device, Memory}
-use Rattle.ck_io.specs.Contents.{Appends}
+use Rattle.std.specs.Io.KnownBytes.{Appends}
 use Rattle.ck_io.specs.Faults.{Rose}
 use Rattle.ck_tool.specs.Outcome.{Outcome, output, refused}
 use Rattle.ck_tool.specs.Words.{AreRight}

@@ -31,8 +31,6 @@ mod shape;
 mod stage;
 mod stop;
 mod telling;
-#[cfg(test)]
-mod tests;
 mod token;
 mod token_text;
 mod top;

@@ -114,6 +114,3 @@ fn only_std(alloc: Global) -> Result<Bits, NoMemory>
     states.add(0);
     Ok(states)
 }
-
-#[cfg(test)]
-mod tests;

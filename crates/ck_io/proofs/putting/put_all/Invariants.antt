@@ -1,6 +1,6 @@
 -- While bytes are put, the first `written` of them are appended.
 use Rattle.std.proofs.Common.{◌-◌, ◌≤◌, length, take}
-use Rattle.ck_io.specs.Contents.{Appends}
+use Rattle.std.specs.Io.KnownBytes.{Appends}
 use Rattle.ck_io.proofs.putting.put_all.Given as goal
 
 abbrev pub invariant-loop-written : goal.invariant-loop-written
