@@ -12,8 +12,8 @@ use Rattle.ck_io.specs.Faults.{Rose}
 use Rattle.rex_model.specs.Rules.{Rules}
 use Rattle.ck_tool.specs.Accepts.{RefusesSpec, faulty, Accepts}
 use Rattle.ck_tool.specs.Outcome.{Outcome, refused, Makes, AnswerOf, makes}
-use Rattle.ck_tool.specs.Wanted.{Settles, by_words, by_spec, by_source, no_files, one_more, Wanted, Reads}
-use Rattle.ck_tool.specs.Words.{AreOfStage, of_stage}
+use Rattle.ck_tool.specs.Wanted.{Settles, by_words, by_spec, by_source, no_files, one_more, Wanted, Reads, names_in}
+use Rattle.ck_tool.specs.Words.{AreOfStage, AreRight, of_stage}
 use Rattle.ck_tool.specs.within.RulesOfLines.{IsFaultOf}
 use Rattle.ck_tool.specs.within.Stops.{IsStopOfRead, answer_in, stop_of}
 use Rattle.ck_tool.specs.declared.stage.Stage.{Stage}
@@ -29,6 +29,11 @@ longer_bytes (Some all) limit longer = (all, refl, longer)
 -- a count that rose later rose from the beginning
 pub rose_before : (old mid new : ℕ) → old ≤ mid → Rose mid new → Rose old new
 rose_before old mid new later rose = omega arith
+
+-- the words are wrong
+pub wanted_of_words : (contents : List ℕ → Option (List ℕ)) (words : List (List ℕ)) → (AreRight words → ⊥) → Wanted contents words (refused refusal.Usage)
+wanted_of_words contents words wrong =
+    record { names = []; others = names_in words; files = []; named = refl; hold = no_files; settles = by_words wrong }
 
 module _ (contents : List ℕ → Option (List ℕ)) (words : List (List ℕ)) (stage : Stage) (spec_name source_name : List ℕ)
     (are : AreOfStage words stage spec_name source_name) where

@@ -10,8 +10,9 @@ use Rattle.std.proofs.lemmas.List.Folds.{list_any-append}
 use Rattle.std.proofs.Math.Path.{fun_ext}
 use Rattle.rex_model.specs.Language.{IsIn}
 use Rattle.rex_model.specs.Meaning.{set_of}
-use Rattle.ck_tool.specs.LineTokens.{Span, Spans, no_spans, single, range, set_of_spans, is_class_byte, is_between}
-use Rattle.ck_tool.specs.within.Begins.{IsSpan, BeginsSpans, HasNoRange, HasNoSpans, AddsSpan, IsSetOf, IsNoClass}
+use Rattle.ck_base.specs.Found.{HasNo}
+use Rattle.ck_tool.specs.LineTokens.{Span, Spans, IsClass, no_spans, single, range, set_of_spans, is_class_byte, is_between}
+use Rattle.ck_tool.specs.within.Begins.{IsSpan, BeginsSpans, HasNoRange, AddsSpan, IsSetOf}
 use Rattle.ck_tool.proofs.OneLexing.{no_dash}
 
 -- a character of a class is a line's byte
@@ -34,7 +35,7 @@ begins_single inside after byte at no_range is = rw at (record {
     others _ _ _ no_range (single byte rest spans is listed) = (spans, refl, listed)
     others _ _ _ no_range (range low high rest spans low_is high_is order listed) = absurd (no_range high rest refl)
 
-pub no_single : (inside after : List ℕ) (byte : ℕ) → inside ≡ byte ∷ after → HasNoRange after → (IsSpan byte byte → ⊥) → HasNoSpans inside
+pub no_single : (inside after : List ℕ) (byte : ℕ) → inside ≡ byte ∷ after → HasNoRange after → (IsSpan byte byte → ⊥) → HasNo (Spans inside)
 no_single inside after byte at no_range none = λ spans are. others after byte spans no_range none (rw at at are)
   where
     others : (after : List ℕ) (byte : ℕ) (spans : List Span) → HasNoRange after → (IsSpan byte byte → ⊥) → Spans (byte ∷ after) spans → ⊥
@@ -58,7 +59,7 @@ begins_range inside after rest low high at at_after is = rw (at, at_after) (reco
     others _ _ _ _ (range low high rest spans low_is high_is order listed) = (spans, refl, listed)
 
 pub no_range_there : (inside after rest : List ℕ) (low high : ℕ) → inside ≡ low ∷ after → after ≡ 45 ∷ high ∷ rest
-    → (IsSpan low high → ⊥) → HasNoSpans inside
+    → (IsSpan low high → ⊥) → HasNo (Spans inside)
 no_range_there inside after rest low high at at_after none =
     λ spans are. others rest low high spans none (rw at_after at (rw at at are))
   where
@@ -178,14 +179,14 @@ is_set_of (byte ∷ inside) [] set first at_first not_caret none all =
     }
 
 -- where the rest lists nothing, the inside is no class
-pub no_class_left : (inside rest set : List ℕ) → BytesSoFar inside rest set → HasNoSpans rest → IsNoClass inside
+pub no_class_left : (inside rest set : List ℕ) → BytesSoFar inside rest set → HasNo (Spans rest) → HasNo (IsClass inside)
 no_class_left inside rest set so_far none = λ spans is.
     let behind = so_far.behind spans is.lists in
     none behind.0 behind.2
 
 -- nor is one that is empty or begins with `^`
-pub no_class_empty : (inside : List ℕ) → length inside ≡ 0 → IsNoClass inside
+pub no_class_empty : (inside : List ℕ) → length inside ≡ 0 → HasNo (IsClass inside)
 no_class_empty inside empty = λ spans is. omega (arith, is.some)
 
-pub no_class_negated : (inside : List ℕ) (first : ℕ) → Some first ≡ slice_get inside 0 → first ≡ 94 → IsNoClass inside
+pub no_class_negated : (inside : List ℕ) (first : ℕ) → Some first ≡ slice_get inside 0 → first ≡ 94 → HasNo (IsClass inside)
 no_class_negated inside first at_first caret = λ spans is. is.not_negated (cc)

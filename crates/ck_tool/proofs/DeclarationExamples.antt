@@ -4,9 +4,10 @@ use Rattle.std.specs.List.{list_any}
 use Rattle.ck_base.specs.declared.fault.Kind.TheVariants.{Section, Syntax}
 use Rattle.rex_model.specs.Language.{Re, bytes, star, plus}
 use Rattle.rex_model.specs.Meaning.{sequence_of}
+use Rattle.ck_base.specs.Found.{HasNo}
 use Rattle.ck_tool.specs.Declares.{Declares, Fault, of_sections, of_shape, no_lines, one_more, declared_rules}
 use Rattle.ck_tool.specs.LineTokens.{Span, Spans, single, range, set_of_spans, IsClass, has_tokens, Lexeme, word, string, sign, LineTokens, no_tokens, blank, a_token, a_word, a_text, a_sign}
-use Rattle.ck_tool.specs.RuleShape.{starred, Declaration, Atom, Pieces, no_pieces, once, plussed, a_string, is_unstarred, RuleShape, DeclaresOne, HasNoShape}
+use Rattle.ck_tool.specs.RuleShape.{starred, Declaration, Atom, Pieces, no_pieces, once, plussed, a_string, is_unstarred, RuleShape, DeclaresOne}
 use Rattle.ck_tool.specs.Sections.{IsEnd, nothing, not_rex, no_end, after_end}
 use Rattle.ck_tool.proofs.OneFault.{one_fault}
 use Rattle.ck_tool.proofs.OneLexing.{one_lexing}
@@ -102,7 +103,7 @@ token_end rule shape =
     shape.not_end (sym tails.1)
 
 -- a line that has one word alone, which isn't RULE, declares nothing
-pub has_no_shape_x : HasNoShape (codes "x")
+pub has_no_shape_x : HasNo (DeclaresOne (codes "x"))
 has_no_shape_x rule is =
     let tokens = one_lexing (codes "x") is.tokens (word (codes "x") ∷ []) is.are_tokens (a_token _ _ _ _ (a_word _ _ refl) no_tokens) in
     let shape = is.shape.are_tokens in

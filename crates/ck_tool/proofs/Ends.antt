@@ -1,5 +1,5 @@
 -- How a run ends, by the line that it told.
-use Rattle.std.proofs.Common.{◌≡◌, ℕ, ◌⊎◌, List, [], Vec, Option, Result, Some, Err, IfSome, refl, subst, inl, inr}
+use Rattle.std.proofs.Common.{◌≡◌, ℕ, ◌⊎◌, List, Vec, Option, Result, Some, Err, IfSome, refl, subst, inl, inr}
 use Rattle.std.specs.Global.{Global}
 use Rattle.ck_base.specs.Lines.{line_of, status_of}
 use Rattle.ck_base.specs.declared.refusal.Refusal.{Refusal}
@@ -8,13 +8,14 @@ use Rattle.ck_base.specs.declared.status.Status.{Status}
 use Rattle.ck_base.specs.declared.status.Status.TheVariants as status
 use Rattle.ck_tool.specs.Outcome.{Outcome, output, refused, Makes, AnswerOf}
 use Rattle.ck_tool.specs.Ran.{Sunk, Kept, Tells, told, cut, Ran, done, refusing, memory, reading, writing, UsageExactly, WritesOnlyDone, Answers, WantedMemory, NoneFailed}
-use Rattle.ck_tool.specs.Wanted.{Settles, by_words, by_spec, by_source, names_in, no_files, Wanted, AreTold}
+use Rattle.ck_tool.specs.Wanted.{Settles, by_words, by_spec, by_source, Wanted, AreTold}
 use Rattle.ck_tool.specs.Words.{AreRight}
 use Rattle.ck_tool.specs.declared.stage.Stage.{Stage}
 use Rattle.ck_tool.specs.declared.stage.Stage.TheVariants as stages
 use Rattle.ck_tool.specs.declared.stop.Stop.{Stop}
 use Rattle.ck_tool.specs.declared.stop.Stop.TheVariants.{Refused, ReadFault, NoMemory}
 use Rattle.ck_tool.specs.within.Stops.{Explains, answer_in}
+use Rattle.ck_tool.proofs.AnswerOfRun.{wanted_of_words}
 use Rattle.ck_tool.proofs.OneOutcome.{one_outcome}
 use Rattle.rex_model.specs.Rules.{Rules}
 
@@ -47,14 +48,7 @@ by_found words wants failed out err ends found wanted fails ran =
 pub by_wrong_words : (contents : List ℕ → Option (List ℕ)) (words : List (List ℕ)) (failed : Type 0) (out err : Sunk) (ends : Status)
     → (AreRight words → ⊥) → Kept out → Tells (line_of refusal.Usage) status.Usage err ends → Ran words (Wanted contents words) failed out err ends
 by_wrong_words contents words failed out err ends wrong kept tells =
-    refusing ends refusal.Usage (record {
-      names = [];
-      others = names_in words;
-      files = [];
-      named = refl;
-      hold = no_files;
-      settles = by_words wrong;
-    }) kept tells
+    refusing ends refusal.Usage (wanted_of_words contents words wrong) kept tells
 
 -- no stage answers Usage; one case for each stage
 makes_no_usage : (stage : Stage) (rules : Rules) (source : List ℕ) → Makes stage rules source (refused refusal.Usage) → ⊥

@@ -1,3 +1,4 @@
+mod AcceptedOrRefused
 mod AnswerOfRun
 mod ClassSpans
 mod DeclarationExamples
@@ -18,6 +19,7 @@ mod RuleParts
 mod RulesSoFar
 mod ScannedRules
 mod SectionsOfLines
+mod SomeOutcome
 mod ThreeWords
 mod TokenSteps
 mod TokensMet

@@ -1,8 +1,9 @@
 -- A specification has one first fault at most, and none where it declares rules, which are the same ones.
 use Rattle.std.proofs.Common.{◌≡◌, ℕ, List, [], ◌∷◌, ◌++◌, refl, sym, ap, ◌∙◌}
 use Rattle.ck_base.specs.declared.fault.Kind.{Kind}
+use Rattle.ck_base.specs.Found.{HasNo}
 use Rattle.ck_tool.specs.NumberedLines.{NumberedLine}
-use Rattle.ck_tool.specs.RuleShape.{Declaration, DeclaresOne, HasNoShape}
+use Rattle.ck_tool.specs.RuleShape.{Declaration, DeclaresOne}
 use Rattle.ck_tool.specs.Declares.{RuleLines, no_lines, one_more, Declares, FirstWithoutShape, Fault, of_sections, of_shape}
 use Rattle.ck_tool.specs.Sections.{IsEnd, NoneIsEnd, AreSections, SectionFault, nothing, not_rex, no_end, after_end}
 use Rattle.ck_tool.proofs.OneShape.{one_rule}
@@ -90,7 +91,7 @@ one_section_fault past lines _ _ (after_end first last after between more at is_
 -- the first line without a shape
 one_first : (before others : List NumberedLine) (line other : NumberedLine) (after more : List NumberedLine) (ds es : List Declaration)
     → before ++ line ∷ after ≡ others ++ other ∷ more → RuleLines before ds → RuleLines others es
-    → HasNoShape line.text → HasNoShape other.text → line ≡ other
+    → HasNo (DeclaresOne line.text) → HasNo (DeclaresOne other.text) → line ≡ other
 one_first _ _ line other after more _ _ same no_lines no_lines none none2 = cc
 one_first _ _ line other after more _ _ same no_lines (one_more first others d ds is rest) none none2 =
     let here : first ≡ line = cc in

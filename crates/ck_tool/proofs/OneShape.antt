@@ -4,9 +4,9 @@ use Rattle.std.specs.Prelude.{codes}
 use Rattle.std.proofs.lemmas.List.{append_cancel_right, append_assoc, drop_at, length-append}
 use Rattle.rex_model.specs.Language.{Re}
 use Rattle.rex_model.specs.Meaning.{sequence_of}
+use Rattle.ck_base.specs.Found.{HasNo}
 use Rattle.ck_tool.specs.LineTokens.{Lexeme, word, sign, LineTokens}
-use Rattle.ck_tool.specs.RuleShape.{Atom, a_string, a_class, Pieces, no_pieces, once, starred, plussed, Declaration, ending, RuleShape, DeclaresOne, HasNoShape}
-use Rattle.ck_tool.specs.within.Shapes.{DeclareNothing}
+use Rattle.ck_tool.specs.RuleShape.{Atom, a_string, a_class, Pieces, no_pieces, once, starred, plussed, Declaration, ending, RuleShape, DeclaresOne}
 use Rattle.ck_tool.proofs.OneLexing.{one_lexing}
 
 -- a token is one atom
@@ -86,7 +86,7 @@ one_rule line rule other a b =
     one_shape b.tokens rule other (rw tokens at a.shape) b.shape
 
 -- where the tokens of a line declare nothing, neither does the line
-pub no_rule_of_line : (line : List ℕ) (tokens : List Lexeme) → LineTokens line tokens → DeclareNothing tokens → HasNoShape line
+pub no_rule_of_line : (line : List ℕ) (tokens : List Lexeme) → LineTokens line tokens → HasNo (RuleShape tokens) → HasNo (DeclaresOne line)
 no_rule_of_line line tokens are none = λ rule is.
     let same = one_lexing line is.tokens tokens is.are_tokens are in
     none rule (rw same at is.shape)

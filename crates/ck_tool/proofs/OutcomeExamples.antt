@@ -12,10 +12,10 @@ use Rattle.ck_tool.specs.Accepts.{RefusesSpec, too_long, faulty, Accepts}
 use Rattle.ck_tool.specs.Declares.{declared_rules}
 use Rattle.ck_tool.specs.Outcome.{Outcome, output, refused, bad_token, printed, makes}
 use Rattle.ck_tool.specs.Ran.{Sunk, Kept, FaultsRose, Gained, GainedPart, Answers, UsageExactly, told, cut, Ran, done, refusing, memory, reading, writing, ended}
-use Rattle.ck_tool.specs.Wanted.{by_words, no_files, Wanted}
+use Rattle.ck_tool.specs.Wanted.{Wanted}
 use Rattle.ck_tool.specs.Words.{AreOfStage, AreRight, of_stage}
 use Rattle.ck_tool.specs.declared.stage.Stage.TheVariants.{Tokens as of_tokens}
-use Rattle.ck_tool.proofs.AnswerOfRun.{wanted_of_spec, wanted_of_source}
+use Rattle.ck_tool.proofs.AnswerOfRun.{wanted_of_words, wanted_of_spec, wanted_of_source}
 use Rattle.ck_tool.proofs.DeclarationExamples.{no_rule, declares_nothing, empty_spec}
 
 -- the words `tokens s x`
@@ -28,7 +28,7 @@ are_tokens = record { words_are = refl; is_spec = λ e. cc; is_source = λ e. cc
 
 -- two words are wrong, and Usage is the answer
 one_file : (contents : List ℕ → Option (List ℕ)) → Wanted contents (codes "tokens" ∷ codes "s" ∷ []) (refused refusal.Usage)
-one_file contents = record { names = []; others = codes "s" ∷ []; files = []; named = refl; hold = no_files; settles = by_words wrong }
+one_file contents = wanted_of_words contents _ wrong
   where
     wrong : AreRight (codes "tokens" ∷ codes "s" ∷ []) → ⊥
     wrong (of_stage stage spec source are) = let is = are.words_are in cc

@@ -7,11 +7,12 @@ use Rattle.std.proofs.Math.Bool.{or-false}
 use Rattle.rex_model.specs.Language.{Re}
 use Rattle.rex_model.specs.Meaning.{meaning, sequence_of}
 use Rattle.rex_model.specs.declared.regex.Regex.{Regex}
+use Rattle.ck_base.specs.Found.{HasNo}
 use Rattle.ck_tool.specs.LineTokens.{Lexeme, sign}
 use Rattle.ck_tool.specs.RuleShape.{Pieces, no_pieces, once, starred, plussed, Atom, a_string, a_class, is_unstarred}
 use Rattle.ck_tool.specs.within.Seen.{seen}
-use Rattle.ck_tool.specs.within.Shapes.{BeginsPieces, BeginsWithSign, AreNoPieces, ArePieces, HaveNoBody, IsNoAtom, repeated, is_star, token_count}
-use Rattle.ck_tool.specs.declared.token.Token.{Token}
+use Rattle.ck_tool.specs.within.Shapes.{BeginsPieces, BeginsWithSign, ArePieces, repeated, is_star, token_count}
+use Rattle.ck_tool.specs.declared.token.LineToken.{LineToken}
 use Rattle.ck_tool.specs.declared.shape.Repeat.{Repeat}
 use Rattle.ck_tool.specs.declared.shape.Repeat.TheVariants.{Once, Star, Plus}
 use Rattle.ck_tool.proofs.OneShape.{one_atom, no_sign_first}
@@ -43,7 +44,7 @@ after_plus _ _ atom _ is (plussed token tokens r rs its pieces) =
     (rs, ap (λ first. repeated Plus first ∷ rs) (one_atom token r atom its is), pieces)
 
 -- an atom with its sign is a piece
-pub begins_piece : (tokens after : List Token) (token : Token) (atom part : Re) (repeat : Repeat) → tokens ≡ token ∷ after
+pub begins_piece : (tokens after : List LineToken) (token : LineToken) (atom part : Re) (repeat : Repeat) → tokens ≡ token ∷ after
     → Atom (seen token) atom → part ≡ repeated repeat atom → token_count repeat ≤ length after + 1 → BeginsWithSign after repeat
     → BeginsPieces tokens part repeat
 begins_piece tokens after token atom part Once at is_atom at_part fits signs = rw (at, at_part) (record {
@@ -66,22 +67,22 @@ begins_piece tokens after token atom part Plus at is_atom at_part fits signs = r
 })
 
 -- where the first token is no atom, the tokens are no pieces
-pub no_piece : (tokens after : List Token) (token : Token) → tokens ≡ token ∷ after → IsNoAtom (seen token) → AreNoPieces (map seen tokens)
+pub no_piece : (tokens after : List LineToken) (token : LineToken) → tokens ≡ token ∷ after → HasNo (Atom (seen token)) → HasNo (Pieces (map seen tokens))
 no_piece tokens after token at none = λ rs are. first (seen token) (map seen after) rs none (rw at at are)
   where
-    first : (token : Lexeme) (after : List Lexeme) (rs : List Re) → IsNoAtom token → Pieces (token ∷ after) rs → ⊥
+    first : (token : Lexeme) (after : List Lexeme) (rs : List Re) → HasNo (Atom token) → Pieces (token ∷ after) rs → ⊥
     first _ _ _ none (once token tokens r rs atom rest) = none r atom
     first _ _ _ none (starred token tokens r rs atom rest) = none r atom
     first _ _ _ none (plussed token tokens r rs atom rest) = none r atom
 
 -- the pieces of the rest stand behind those read, and in no other way
-pub record PiecesSoFar (tokens rest : List Token) (parts : List Regex) (has_unstarred : Bool) : Type 0 where
+pub record PiecesSoFar (tokens rest : List LineToken) (parts : List Regex) (has_unstarred : Bool) : Type 0 where
   pub pieces : (rs : List Re) → Pieces (map seen rest) rs → Pieces (map seen tokens) (map meaning parts ++ rs)
   pub others : (rs : List Re) → Pieces (map seen tokens) rs → (more : List Re) × (rs ≡ map meaning parts ++ more) × Pieces (map seen rest) more
   pub some : list_any is_unstarred (map meaning parts) ≡ has_unstarred
 
 -- one piece more
-pub more_pieces : (tokens rest : List Token) (parts more : List Regex) (has_unstarred star : Bool) (part : Regex) (repeat : Repeat) (count : ℕ)
+pub more_pieces : (tokens rest : List LineToken) (parts more : List Regex) (has_unstarred star : Bool) (part : Regex) (repeat : Repeat) (count : ℕ)
     → PiecesSoFar tokens rest parts has_unstarred → BeginsPieces rest (meaning part) repeat
     → more ≡ parts ++ part ∷ [] → star ≡ is_star repeat → count ≡ token_count repeat
     → PiecesSoFar tokens (take (length rest - count) (drop count rest)) more (has_unstarred || not star)
@@ -104,7 +105,7 @@ more_pieces tokens rest parts more has_unstarred star part repeat count so_far b
     }
 
 -- where nothing is left, the pieces are all
-pub all_pieces : (tokens rest : List Token) (parts : List Regex) → length rest ≡ 0 → PiecesSoFar tokens rest parts true
+pub all_pieces : (tokens rest : List LineToken) (parts : List Regex) → length rest ≡ 0 → PiecesSoFar tokens rest parts true
     → ArePieces (map seen tokens) (sequence_of (map meaning parts))
 all_pieces tokens (token ∷ rest) parts none so_far = absurd (omega arith)
 all_pieces tokens [] parts none so_far = record {
@@ -115,8 +116,8 @@ all_pieces tokens [] parts none so_far = record {
 }
 
 -- where each of them has a `*`, they aren't a body
-pub all_starred : (tokens rest : List Token) (parts : List Regex) (b : Bool) → b ≡ false → length rest ≡ 0 → PiecesSoFar tokens rest parts b
-    → HaveNoBody (map seen tokens)
+pub all_starred : (tokens rest : List LineToken) (parts : List Regex) (b : Bool) → b ≡ false → length rest ≡ 0 → PiecesSoFar tokens rest parts b
+    → HasNo (ArePieces (map seen tokens))
 all_starred tokens (token ∷ rest) parts b is_false none so_far = absurd (omega arith)
 all_starred tokens [] parts b is_false none so_far = λ body are.
     let others = so_far.others are.parts are.are_pieces in
@@ -130,8 +131,8 @@ all_starred tokens [] parts b is_false none so_far = λ body are.
     no_more _ no_pieces = refl
 
 -- where the rest is no pieces, neither are all
-pub no_pieces_left : (tokens rest : List Token) (parts : List Regex) (b : Bool) → PiecesSoFar tokens rest parts b
-    → AreNoPieces (map seen rest) → HaveNoBody (map seen tokens)
+pub no_pieces_left : (tokens rest : List LineToken) (parts : List Regex) (b : Bool) → PiecesSoFar tokens rest parts b
+    → HasNo (Pieces (map seen rest)) → HasNo (ArePieces (map seen tokens))
 no_pieces_left tokens rest parts b so_far none = λ body are.
     let others = so_far.others are.parts are.are_pieces in
     none others.0 others.2

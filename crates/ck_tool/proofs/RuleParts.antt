@@ -3,11 +3,12 @@ use Rattle.std.proofs.Common.{◌≡◌, ℕ, ◌+◌, ◌<◌, List, [], ◌∷
 use Rattle.std.specs.Prelude.{codes}
 use Rattle.std.proofs.lemmas.List.{append_assoc, length-append, map-append}
 use Rattle.rex_model.specs.Language.{Re}
+use Rattle.ck_base.specs.Found.{HasNo}
 use Rattle.ck_tool.specs.LineTokens.{Lexeme, word, sign}
 use Rattle.ck_tool.specs.RuleShape.{RuleShape, ending}
 use Rattle.ck_tool.specs.within.Seen.{seen}
-use Rattle.ck_tool.specs.within.Shapes.{ArePieces, HaveNoBody, IsAroundColon, IsNoRule, IsRuleOf, DeclareNothing}
-use Rattle.ck_tool.specs.declared.token.Token.{Token}
+use Rattle.ck_tool.specs.within.Shapes.{ArePieces, IsAroundColon, IsNoRule, IsRuleOf}
+use Rattle.ck_tool.specs.declared.token.LineToken.{LineToken}
 use Rattle.ck_tool.proofs.OneShape.{same_tails, same_ends}
 
 -- the first word of a line
@@ -15,12 +16,12 @@ abbrev rule_word : Lexeme
 rule_word = word (codes "RULE")
 
 -- the tokens of a line whose last tokens are read one by one
-pub two_at_end : (tokens rest before pieces : List Token) (first last colon : Token) → tokens ≡ first ∷ rest → rest ≡ before ++ last ∷ []
+pub two_at_end : (tokens rest before pieces : List LineToken) (first last colon : LineToken) → tokens ≡ first ∷ rest → rest ≡ before ++ last ∷ []
     → before ≡ pieces ++ colon ∷ [] → map seen tokens ≡ seen first ∷ (map seen pieces ++ seen colon ∷ seen last ∷ [])
 two_at_end tokens rest before pieces first last colon at at_rest at_before =
     rw (at, at_rest, at_before, append_assoc pieces (colon ∷ []) (last ∷ []), map-append seen pieces (colon ∷ last ∷ [])) refl
 
-pub three_at_end : (tokens rest before front pieces : List Token) (first last middle colon : Token) → tokens ≡ first ∷ rest
+pub three_at_end : (tokens rest before front pieces : List LineToken) (first last middle colon : LineToken) → tokens ≡ first ∷ rest
     → rest ≡ before ++ last ∷ [] → before ≡ front ++ middle ∷ [] → front ≡ pieces ++ colon ∷ []
     → map seen tokens ≡ seen first ∷ (map seen pieces ++ seen colon ∷ seen middle ∷ seen last ∷ [])
 three_at_end tokens rest before front pieces first last middle colon at at_rest at_before at_front =
@@ -73,10 +74,10 @@ is_rule_shape tokens pieces name body around are = record {
 }
 
 -- and nothing else is
-pub no_rule : (tokens : List Lexeme) → IsNoRule tokens → DeclareNothing tokens
+pub no_rule : (tokens : List Lexeme) → IsNoRule tokens → HasNo (RuleShape tokens)
 no_rule tokens none = λ rule shape. none shape.pieces rule.token (record { are_tokens = shape.are_tokens; not_end = shape.not_end })
 
-pub no_body : (tokens pieces : List Lexeme) (name : Option (List ℕ)) → IsAroundColon tokens pieces name → HaveNoBody pieces → DeclareNothing tokens
+pub no_body : (tokens pieces : List Lexeme) (name : Option (List ℕ)) → IsAroundColon tokens pieces name → HasNo (ArePieces pieces) → HasNo (RuleShape tokens)
 no_body tokens pieces name around none = λ rule shape.
     let first = around.are_tokens in
     let second = shape.are_tokens in

@@ -13,14 +13,14 @@ use Rattle.ck_tool.specs.RuleShape.{Declaration, DeclaresOne}
 use Rattle.ck_tool.specs.Declares.{RuleLines, no_lines, one_more as one_more_line, of_sections, of_shape, token_names, rule_in}
 use Rattle.ck_tool.specs.within.RulesOfLines.{DeclaresRule, AreRulesOf, IsFaultOf, IsFaultOfLine, IsFaultOfLines, IsFaultOfSections}
 use Rattle.ck_tool.specs.Sections.{AreSections}
-use Rattle.ck_tool.specs.within.Seen.{line_of}
+use Rattle.ck_tool.specs.within.Seen.{seen_line}
 use Rattle.ck_tool.specs.declared.line.SpecLine.{SpecLine}
 use Rattle.ck_tool.proofs.SectionsOfLines.{no_line, line_in_place, at_place}
 use Rattle.ck_tool.proofs.TokensMet.{one_name_at_most}
 
 -- the lines so far declare the rules so far; each names one token at most
 pub record RulesSoFar (lines : List SpecLine) (names : List (List ℕ)) (rules : List ScanRule) : Type 0 where
-  pub are_rules : AreRulesOf (map line_of lines) names rules
+  pub are_rules : AreRulesOf (map seen_line lines) names rules
   pub few : length names ≤ length lines
   pub each : length rules ≡ length lines
 
@@ -65,24 +65,24 @@ more_rules lines i old new rules more rule within so_far declares at_rules =
     let line = get_or lines i no_line in
     let name = token_names (declares.declared ∷ []) in
     rw (take_more lines i no_line within, at_rules) (record {
-      are_rules = rw (map-append line_of (take i lines) (line ∷ []))
-          (one_rule_more (map line_of (take i lines)) (line_of line) old new rules rule so_far.are_rules declares);
+      are_rules = rw (map-append seen_line (take i lines) (line ∷ []))
+          (one_rule_more (map seen_line (take i lines)) (seen_line line) old new rules rule so_far.are_rules declares);
       few = simp length-append (omega (arith, so_far.few, ap length declares.names, length-met old name, one_name_at_most declares.declared));
       each = simp length-append (omega (arith, so_far.each));
     })
 
 -- a line without a shape is the first one, where those before it have declared rules
 pub fault_of_lines : (lines : List SpecLine) (i : ℕ) (names : List (List ℕ)) (rules : List ScanRule) (fault : SpecFault) → i < length lines
-    → RulesSoFar (take i lines) names rules → IsFaultOfLine (line_of (get_or lines i no_line)) fault → IsFaultOfLines (map line_of lines) fault
+    → RulesSoFar (take i lines) names rules → IsFaultOfLine (seen_line (get_or lines i no_line)) fault → IsFaultOfLines (map seen_line lines) fault
 fault_of_lines lines i names rules (Bad number kind) within so_far is = (
   is.1,
   record {
-    before = take i (map line_of lines);
-    line = line_of (get_or lines i no_line);
-    after = drop (suc i) (map line_of lines);
+    before = take i (map seen_line lines);
+    line = seen_line (get_or lines i no_line);
+    after = drop (suc i) (map seen_line lines);
     rules = so_far.are_rules.declared;
-    are_lines = at_place (map line_of lines) i _ (line_in_place lines i no_line within);
-    declare = rw (take-map line_of i lines) so_far.are_rules.by_lines;
+    are_lines = at_place (map seen_line lines) i _ (line_in_place lines i no_line within);
+    declare = rw (take-map seen_line i lines) so_far.are_rules.by_lines;
     has_none = is.2;
     is_number = is.0;
   },

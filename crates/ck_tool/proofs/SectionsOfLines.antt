@@ -5,7 +5,7 @@ use Rattle.std.proofs.Math.ListN.{drop_of_length-le}
 use Rattle.std.proofs.lemmas.Option.{slice_get-map, slice_get-get_or}
 use Rattle.ck_tool.specs.NumberedLines.{NumberedLine}
 use Rattle.ck_tool.specs.within.RulesOfLines.{IsFirstEnd}
-use Rattle.ck_tool.specs.within.Seen.{line_of}
+use Rattle.ck_tool.specs.within.Seen.{seen_line}
 use Rattle.ck_tool.specs.declared.line.SpecLine.{SpecLine}
 use Rattle.ck_tool.specs.Sections.{IsRex, IsEnd, NoneIsEnd, AreSections, SectionFault, nothing, after_end}
 
@@ -15,8 +15,8 @@ no_line = record { number = 0; text = record { ref_ptr = (0, 0); now = [] } }
 
 -- the numbered line that a line of the program at a place stands for
 pub line_in_place : (lines : List SpecLine) (i : ℕ) (d : SpecLine) → i < length lines
-    → slice_get (map line_of lines) i ≡ Some (line_of (get_or lines i d))
-line_in_place lines i d within = slice_get-map line_of lines i ∙ ap (option_map line_of) (slice_get-get_or lines i d within)
+    → slice_get (map seen_line lines) i ≡ Some (seen_line (get_or lines i d))
+line_in_place lines i d within = slice_get-map seen_line lines i ∙ ap (option_map seen_line) (slice_get-get_or lines i d within)
 
 -- the lines before a place, the one there, and those behind it
 pub at_place : (lines : List NumberedLine) (i : ℕ) (line : NumberedLine) → slice_get lines i ≡ Some line
@@ -68,6 +68,6 @@ fault_after_end past all rest first after place at is_rex end there =
     at_drop (first ∷ lines) (suc i) line at = at_drop lines i line at
 
 -- the section faults of lines of the program
-pub no_lines : (lines items : List SpecLine) (past : ℕ) → lines ≡ items → length lines ≡ 0 → SectionFault past (map line_of items) past
-no_lines [] items past at none = nothing (ap (map line_of) (sym at))
+pub no_lines : (lines items : List SpecLine) (past : ℕ) → lines ≡ items → length lines ≡ 0 → SectionFault past (map seen_line items) past
+no_lines [] items past at none = nothing (ap (map seen_line) (sym at))
 no_lines (line ∷ lines) items past at none = absurd (omega arith)

@@ -5,8 +5,9 @@ use Rattle.std.proofs.Math.Numerals.{one-add}
 use Rattle.std.proofs.lemmas.List.{take_rest, append-nil, append_assoc}
 use Rattle.std.proofs.lemmas.Bool.{and_parts}
 use Rattle.rex_model.specs.Meaning.{set_of}
+use Rattle.ck_base.specs.Found.{HasNo}
 use Rattle.ck_tool.specs.LineTokens.{Lexeme, word, string, byte_set, Span, IsClass, BeginsWith, a_word, a_text, a_class, a_sign, LineTokens, no_tokens, blank, a_token, is_sign, is_blank, is_letter, is_word_byte, word_len, text_len, class_len}
-use Rattle.ck_tool.specs.within.Begins.{BeginsWithNone, BeginsUnblank, HasNoTokens, IsSetOf, CutsAt}
+use Rattle.ck_tool.specs.within.Begins.{BeginsWithNone, BeginsUnblank, IsSetOf, CutsAt}
 use Rattle.ck_tool.proofs.OneLexing.{blank_begins_none, nothing_begins, one_begin}
 
 -- a byte more is dropped, or taken, with the byte in front
@@ -138,7 +139,7 @@ none_of_rest _ _ some unblank none (blank byte rest tokens is are) = let e = unb
 none_of_rest _ _ some unblank none (a_token line rest token tokens begins are) = none token rest begins
 
 pub no_token_left : (line rest : List ℕ) (so_far : List Lexeme) → 0 < length rest → TokensSoFar line rest so_far → BeginsWithNone rest
-    → HasNoTokens line
+    → HasNo (LineTokens line)
 no_token_left line rest so_far some so none = λ tokens are.
     let behind = so.behind tokens are in
     none_of_rest rest behind.0 some so.unblank none behind.2

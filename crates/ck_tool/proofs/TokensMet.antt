@@ -12,7 +12,7 @@ use Rattle.rex_model.specs.Rules.{Rule, Rules}
 use Rattle.rex_model.proofs.MeantRules.{contains_has}
 use Rattle.ck_tool.specs.RuleShape.{Declaration}
 use Rattle.ck_tool.specs.Declares.{token_names, rule_in, declared_rules}
-use Rattle.ck_tool.specs.within.Shapes.{name_of}
+use Rattle.ck_tool.specs.within.Shapes.{seen_name}
 use Rattle.ck_tool.specs.within.RulesOfLines.{IsNumber}
 
 -- a declaration has one name at most
@@ -25,7 +25,7 @@ one_name_at_most declared = names declared.token
 
 module _ (old new : List (List ℕ)) (declared : Declaration) where
   -- the name of one declaration is met where it is numbered
-  pub met_once : (name : Option (Bor (List ℕ))) (number : Option ℕ) → declared.token ≡ name_of name → IsNumber old new name number
+  pub met_once : (name : Option (Bor (List ℕ))) (number : Option ℕ) → declared.token ≡ seen_name name → IsNumber old new name number
       → new ≡ met old (token_names (declared ∷ []))
   met_once None None at is = rw at is
   met_once None (Some n) at is = absurd is
@@ -33,7 +33,7 @@ module _ (old new : List (List ℕ)) (declared : Declaration) where
   met_once (Some name) (Some n) at is = rw at is.0
 
   -- and keeps its number, whatever is met later
-  pub number_stays : (name : Option (Bor (List ℕ))) (number : Option ℕ) → declared.token ≡ name_of name → IsNumber old new name number
+  pub number_stays : (name : Option (Bor (List ℕ))) (number : Option ℕ) → declared.token ≡ seen_name name → IsNumber old new name number
       → (later : List (List ℕ)) → number ≡ option_and_then (number_of (met new later)) declared.token
   number_stays None None at is later = rw at refl
   number_stays None (Some n) at is later = absurd is

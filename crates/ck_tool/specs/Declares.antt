@@ -4,8 +4,9 @@ use Rattle.ck_base.specs.Numbered.{met, number_of}
 use Rattle.ck_base.specs.declared.fault.Kind.{Kind}
 use Rattle.ck_base.specs.declared.fault.Kind.TheVariants.{Section, Syntax}
 use Rattle.rex_model.specs.Rules.{Rule, Rules}
+use Rattle.ck_base.specs.Found.{HasNo}
 use Rattle.ck_tool.specs.NumberedLines.{NumberedLine, lines_of, past_lines}
-use Rattle.ck_tool.specs.RuleShape.{Declaration, DeclaresOne, HasNoShape}
+use Rattle.ck_tool.specs.RuleShape.{Declaration, DeclaresOne}
 use Rattle.ck_tool.specs.Sections.{AreSections, SectionFault}
 
 -- each line declares one rule
@@ -28,7 +29,7 @@ pub record FirstWithoutShape (lines : List NumberedLine) (number : ℕ) : Type 0
   pub rules : List Declaration
   pub are_lines : lines ≡ before ++ line ∷ after
   pub declare : RuleLines before rules
-  pub has_none : HasNoShape line.text
+  pub has_none : HasNo (DeclaresOne line.text)
   pub is_number : number ≡ line.number
 
 -- the first fault of a specification, by its line and its kind: a section fault, else the first line

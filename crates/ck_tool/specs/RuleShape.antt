@@ -57,7 +57,3 @@ pub record DeclaresOne (line : List ℕ) (rule : Declaration) : Type 0 where
   pub tokens : List Lexeme
   pub are_tokens : LineTokens line tokens
   pub shape : RuleShape tokens rule
-
--- the line has neither shape
-abbrev pub HasNoShape : List ℕ → Type 0
-HasNoShape line = (rule : Declaration) → DeclaresOne line rule → ⊥

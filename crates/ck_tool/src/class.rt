@@ -1,5 +1,7 @@
 ghost use Rattle.std.specs.Prelude.{◌≡◌, ◌↔◌, ◌∷◌, ◌<◌, ◌≤◌, length, IsTrue, MatchOption};
-ghost use Rattle.ck_tool.specs.within.Begins.{AddsSpan, BeginsSpans, HasNoRange, HasNoSpans, IsNoClass, IsSetOf, IsSpan};
+ghost use Rattle.ck_base.specs.Found.{HasNo};
+ghost use Rattle.ck_tool.specs.LineTokens.{IsClass, Spans};
+ghost use Rattle.ck_tool.specs.within.Begins.{AddsSpan, BeginsSpans, HasNoRange, IsSetOf, IsSpan};
 
 use crate::bytes::is_class_byte;
 
@@ -8,7 +10,7 @@ use crate::bytes::is_class_byte;
 /// word b / 64 is set. There is none where the inside is empty, begins with `^`, or has anything
 /// else.
 pub(crate) fn class_set(inside: &[u8]) -> Option<[u64; 4]>
-    ensures { MatchOption result (IsNoClass inside.now) (IsSetOf inside.now) }
+    ensures { MatchOption result (HasNo (IsClass inside.now)) (IsSetOf inside.now) }
 {
     if *inside.first()? == b'^' {
         return None;
@@ -27,7 +29,7 @@ pub(crate) fn class_set(inside: &[u8]) -> Option<[u64; 4]>
 /// follows it. A single character is a span of one byte.
 fn first_span(inside: &[u8]) -> Option<(u8, u8, &[u8])>
     requires { 0 < length inside.now }
-    ensures { MatchOption result (HasNoSpans inside.now)
+    ensures { MatchOption result (HasNo (Spans inside.now))
         (λ found. BeginsSpans inside.now found.0 found.1 found.2.now) }
 {
     let (first, after) = inside.split_first()?;
@@ -54,7 +56,8 @@ fn is_span(low: u8, high: u8) -> bool
 
 /// The byte behind the `-` with which the bytes begin, and what follows it.
 fn range_end(bytes: &[u8]) -> Option<(u8, &[u8])>
-    ensures { MatchOption result (HasNoRange bytes.now) (λ found. bytes.now ≡ 45 ∷ found.0 ∷ found.1.now) }
+    ensures { MatchOption result (HasNoRange bytes.now)
+        (λ found. bytes.now ≡ 45 ∷ found.0 ∷ found.1.now) }
 {
     match bytes {
         [b'-', high, after @ ..] => Some((*high, after)),

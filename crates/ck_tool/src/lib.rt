@@ -2,18 +2,21 @@
 //!
 //! | what | file |
 //! |---|---|
-//! | the call, in the order of what is done | `src/top.rt`; `specs/Outcome.antt` |
-//! | which words are right | `src/words.rt`; `specs/Words.antt` |
-//! | the scan rules of a specification, or its first fault | `src/reader.rt`; `specs/Declares.antt`, `specs/RulesOfLines.antt` |
-//! | its lines with tokens; those between REX and END | `src/line.rt`, `src/section.rt`; `specs/NumberedLines.antt`, `specs/Sections.antt` |
-//! | the rule that a line declares | `src/shape.rt`; `specs/RuleShape.antt`, `specs/Shapes.antt` |
-//! | the tokens of a line | `src/token.rt`, `src/bytes.rt`; `specs/LineTokens.antt`, `specs/Begins.antt`, `specs/Seen.antt` |
-//! | the bytes of a class | `src/class.rt`; `IsClass` of `specs/LineTokens.antt` |
-//! | the tokens of a source as text | `src/token_text.rt`, `src/quote.rt`; `specs/TokenText.antt` |
-//! | line and column of a place | `src/place.rt`; `specs/Places.antt` |
-//! | why there is no output | `src/stop.rt`; `specs/Stops.antt` |
-//! | a line put to a sink | `src/telling.rt`; `specs/Tells.antt` |
-//! | a run has one answer to give | `src/laws.rt`; `proofs/OneOutcome.antt` |
+//! | the call, in the order of what is done | `src/top.rt` |
+//! | what a run is to answer, and which files it reads | `specs/Wanted.antt` |
+//! | how a run ends | `specs/Ran.antt`; `src/stop.rt`, `src/telling.rt` |
+//! | which words are right, and the stage that they ask for | `src/words.rt`, `src/stage.rt`; `specs/Words.antt` |
+//! | which specifications are accepted | `specs/Accepts.antt` |
+//! | its scan rules, or its first fault | `src/reader.rt`; `specs/Declares.antt` |
+//! | its lines with tokens | `src/line.rt`; `specs/NumberedLines.antt` |
+//! | those between REX and END | `src/section.rt`; `specs/Sections.antt` |
+//! | the rule that a line declares | `src/shape.rt`; `specs/RuleShape.antt` |
+//! | the tokens of a line, and the bytes of a class | `src/token.rt`, `src/bytes.rt`, `src/class.rt`; `specs/LineTokens.antt` |
+//! | what a stage makes of a source | `specs/Outcome.antt` |
+//! | its tokens as text | `src/token_text.rt`, `src/quote.rt`; `specs/TokenText.antt` |
+//! | line and column of a place | `src/place.rt` |
+//! | words of contracts within the crate | `specs/within.antt` |
+//! | a run has one answer | `src/laws.rt`; `proofs/OneOutcome.antt`, `proofs/SomeOutcome.antt` |
 #![tactic(auto)]
 
 mod bytes;
@@ -33,5 +36,5 @@ mod token_text;
 mod top;
 mod words;
 
-pub use laws::at_most_one_answer;
+pub use laws::{at_most_one_answer, some_answer};
 pub use top::cocktail;

@@ -2,7 +2,7 @@ ghost use Rattle.std.specs.Prelude.{◌≡◌, ◌+◌, ◌==◌, ◌<◌, ◌�
 ghost use Rattle.std.specs.List.{position_or_len};
 ghost use Rattle.std.specs.Str.Lines.{lines, strip_carriage_return};
 ghost use Rattle.ck_tool.specs.NumberedLines.{lines_of};
-ghost use Rattle.ck_tool.specs.within.Seen.{line_of};
+ghost use Rattle.ck_tool.specs.within.Seen.{seen_line};
 
 use crate::bytes::is_blank_line;
 use ck_base::NoMemory;
@@ -27,7 +27,8 @@ pub(crate) struct SpecLines<'s> {
 /// anything else than blanks and tabs.
 pub(crate) fn spec_lines(alloc: Global, spec: &[u8]) -> Result<SpecLines<'_>, NoMemory>
     requires { length spec.now ≤ 1048576 }
-    ensures with_tokens { IfOk result (λ found. map line_of found.with_tokens.items ≡ lines_of spec.now) }
+    ensures with_tokens { IfOk result
+        (λ found. map seen_line found.with_tokens.items ≡ lines_of spec.now) }
     ensures count { IfOk result (λ found. found.count ≡ length (lines spec.now)) }
     ensures few { IfOk result (λ found. length found.with_tokens.items ≤ found.count) }
     ensures fits { IfOk result (λ found. found.count ≤ length spec.now) }

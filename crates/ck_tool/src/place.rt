@@ -40,7 +40,8 @@ impl Place {
         requires line { self.line + 1 < 2 ^ 32 }
         requires column { self.col + 1 < 2 ^ 32 }
         ensures at { result.at ≡ self.at + 1 }
-        ensures is_place { (text : List ℕ) → slice_get text self.at ≡ Some byte → IsPlace text self → IsPlace text result }
+        ensures is_place { (text : List ℕ) → slice_get text self.at ≡ Some byte
+            → IsPlace text self → IsPlace text result }
     {
         let at = self.at + 1;
         if byte == b'\n' {

@@ -3,7 +3,7 @@ ghost use Rattle.ck_base.specs.BitSet.{Has};
 ghost use Rattle.rex_model.specs.RuleMeaning.{rules_of as meant_rules};
 ghost use Rattle.ck_tool.specs.Declares.{DeclaresRules};
 ghost use Rattle.ck_tool.specs.within.RulesOfLines.{DeclaresRule, AreRulesOf, IsFaultOf, IsFaultOfLine, IsFaultOfLines, IsNumber};
-ghost use Rattle.ck_tool.specs.within.Seen.{line_of};
+ghost use Rattle.ck_tool.specs.within.Seen.{seen_line};
 
 use crate::line::{SpecLine, spec_lines};
 use crate::section::rule_lines;
@@ -50,9 +50,10 @@ fn rules_of<'a>(
     lines: &[SpecLine<'_>],
 ) -> Result<(Names, Vec<ScanRule<'a>>), SpecFault>
     requires { length lines.now < 2 ^ 31 }
-    ensures rules { IfOk result (λ found. AreRulesOf (map line_of lines.now) found.0 found.1.items) }
+    ensures rules { IfOk result
+        (λ found. AreRulesOf (map seen_line lines.now) found.0 found.1.items) }
     ensures few { IfOk result (λ found. length found.1.items ≡ length lines.now) }
-    ensures fault { IfErr result (IsFaultOfLines (map line_of lines.now)) }
+    ensures fault { IfErr result (IsFaultOfLines (map seen_line lines.now)) }
 {
     let mut tokens = Names::new(alloc);
     let mut rules = Vec::new(alloc);
@@ -71,8 +72,9 @@ fn read_rule<'a>(
     tokens: &mut Names,
 ) -> Result<ScanRule<'a>, SpecFault>
     requires { length tokens.old + 1 < 2 ^ 32 }
-    ensures rule { IfOk result (λ rule. DeclaresRule line.now.text.now tokens.old tokens.new rule) }
-    ensures fault { IfErr result (IsFaultOfLine (line_of line.now)) }
+    ensures rule { IfOk result
+        (λ rule. DeclaresRule line.now.text.now tokens.old tokens.new rule) }
+    ensures fault { IfErr result (IsFaultOfLine (seen_line line.now)) }
 {
     let fault = SpecFault::Bad {
         line: line.number,

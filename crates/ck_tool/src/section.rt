@@ -3,7 +3,7 @@ ghost use Rattle.ck_base.specs.declared.fault.Kind.TheVariants.{Section as secti
 ghost use Rattle.ck_base.specs.declared.fault.SpecFault.TheVariants.{Bad as bad};
 ghost use Rattle.ck_tool.specs.within.RulesOfLines.{IsFaultOfSections, IsFirstEnd};
 ghost use Rattle.ck_tool.specs.Sections.{AreSections, NoneIsEnd};
-ghost use Rattle.ck_tool.specs.within.Seen.{line_of};
+ghost use Rattle.ck_tool.specs.within.Seen.{seen_line};
 
 use crate::line::{SpecLine, SpecLines};
 use crate::token::is_alone;
@@ -15,11 +15,12 @@ use ck_base::{Kind, SpecFault};
 /// after the first `END`.
 pub(crate) fn rule_lines<'l, 's>(lines: &'l SpecLines<'s>) -> Result<&'l [SpecLine<'s>], SpecFault>
     requires { lines.now.count + 1 < 2 ^ 32 }
-    ensures few { IfOk result (λ between. length between.now ≤ length lines.now.with_tokens.items) }
-    ensures sections { IfOk result
-        (λ between. AreSections (map line_of lines.now.with_tokens.items) (map line_of between.now)) }
+    ensures few { IfOk result
+        (λ between. length between.now ≤ length lines.now.with_tokens.items) }
+    ensures sections { IfOk result (λ between.
+        AreSections (map seen_line lines.now.with_tokens.items) (map seen_line between.now)) }
     ensures fault { IfErr result
-        (IsFaultOfSections (lines.now.count + 1) (map line_of lines.now.with_tokens.items)) }
+        (IsFaultOfSections (lines.now.count + 1) (map seen_line lines.now.with_tokens.items)) }
 {
     let missing = fault_at(lines.count + 1);
     let Some((first, rest)) = lines.with_tokens.split_first() else {
@@ -39,7 +40,8 @@ pub(crate) fn rule_lines<'l, 's>(lines: &'l SpecLines<'s>) -> Result<&'l [SpecLi
 
 /// The place of the first line that is `END`.
 fn place_of_end(lines: &[SpecLine<'_>]) -> Option<usize>
-    ensures end { MatchOption result (NoneIsEnd (map line_of lines.now)) (IsFirstEnd (map line_of lines.now)) }
+    ensures end { MatchOption result (NoneIsEnd (map seen_line lines.now))
+        (IsFirstEnd (map seen_line lines.now)) }
     ensures within { IfSome result (λ place. place < length lines.now) }
 {
     for (place, line) in lines.iter().enumerate() {

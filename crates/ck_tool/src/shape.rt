@@ -1,11 +1,12 @@
 ghost use Rattle.std.specs.Prelude.{◌≡◌, ℕ, ◌+◌, ◌<◌, ◌≤◌, List, length, map, not, Some, None, IfOk, MatchOption};
 ghost use Rattle.rex_model.specs.Meaning.{meaning};
+ghost use Rattle.ck_base.specs.Found.{HasNo};
 ghost use Rattle.ck_tool.specs.LineTokens.{Lexeme, word};
-ghost use Rattle.ck_tool.specs.RuleShape.{Atom, RuleShape, is_unstarred};
+ghost use Rattle.ck_tool.specs.RuleShape.{Atom, Pieces, RuleShape, is_unstarred};
 ghost use Rattle.ck_tool.specs.within.Seen.{seen};
-ghost use Rattle.ck_tool.specs.within.Shapes.{AreNoPieces, ArePieces, BeginsPieces, BeginsWithSign, DeclareNothing, HaveNoBody, IsAroundColon, IsNoAtom, IsNoRule, IsRuleOf, is_star, token_count, repeated, declaration_of, name_of};
+ghost use Rattle.ck_tool.specs.within.Shapes.{ArePieces, BeginsPieces, BeginsWithSign, IsAroundColon, IsNoRule, IsRuleOf, is_star, token_count, repeated, declaration_of, seen_name};
 
-use crate::token::{Token, is_this_sign, is_word};
+use crate::token::{LineToken, is_this_sign, is_word};
 use bumpalo::Bump;
 use bumpalo::collections::into_bump_slice;
 use ck_base::NoMemory;
@@ -23,9 +24,9 @@ pub(crate) struct DeclaredRule<'a, 's> {
 /// `RULE pieces : SKIP`; `None` where they have neither form. The name isn't `END`.
 pub(crate) fn rule_of<'a, 's>(
     arena: &'a Bump<Global>,
-    tokens: &[Token<'s>],
+    tokens: &[LineToken<'s>],
 ) -> Result<Option<DeclaredRule<'a, 's>>, NoMemory>
-    ensures { IfOk result (λ found. MatchOption found (DeclareNothing (map seen tokens.now))
+    ensures { IfOk result (λ found. MatchOption found (HasNo (RuleShape (map seen tokens.now)))
         (λ rule. RuleShape (map seen tokens.now) (declaration_of rule))) }
 {
     let Some((pieces, token)) = around_colon(tokens) else {
@@ -40,9 +41,11 @@ pub(crate) fn rule_of<'a, 's>(
 
 /// What stands between `RULE` and `:`, and the name after `: TOKEN`; `None` for it after `: SKIP`.
 /// The name isn't `END`.
-fn around_colon<'t, 's>(tokens: &'t [Token<'s>]) -> Option<(&'t [Token<'s>], Option<&'s [u8]>)>
+fn around_colon<'t, 's>(
+    tokens: &'t [LineToken<'s>],
+) -> Option<(&'t [LineToken<'s>], Option<&'s [u8]>)>
     ensures { MatchOption result (IsNoRule (map seen tokens.now))
-        (λ parts. IsAroundColon (map seen tokens.now) (map seen parts.0.now) (name_of parts.1)) }
+        (λ parts. IsAroundColon (map seen tokens.now) (map seen parts.0.now) (seen_name parts.1)) }
 {
     if let Some(pieces) = pieces_of_skip(tokens) {
         return Some((pieces, None));
@@ -56,8 +59,8 @@ fn around_colon<'t, 's>(tokens: &'t [Token<'s>]) -> Option<(&'t [Token<'s>], Opt
 }
 
 /// What stands between `RULE` and `: SKIP`.
-fn pieces_of_skip<'t, 's>(tokens: &'t [Token<'s>]) -> Option<&'t [Token<'s>]>
-    ensures { MatchOption result ((pieces : List Lexeme) → IsRuleOf (map seen tokens.now) pieces None → ⊥)
+fn pieces_of_skip<'t, 's>(tokens: &'t [LineToken<'s>]) -> Option<&'t [LineToken<'s>]>
+    ensures { MatchOption result (HasNo (λ pieces. IsRuleOf (map seen tokens.now) pieces None))
         (λ pieces. IsRuleOf (map seen tokens.now) (map seen pieces.now) None) }
 {
     let (first, rest) = tokens.split_first()?;
@@ -71,9 +74,10 @@ fn pieces_of_skip<'t, 's>(tokens: &'t [Token<'s>]) -> Option<&'t [Token<'s>]>
 }
 
 /// What stands between `RULE` and `: TOKEN name`, and the name.
-fn pieces_of_token<'t, 's>(tokens: &'t [Token<'s>]) -> Option<(&'t [Token<'s>], &'s [u8])>
+fn pieces_of_token<'t, 's>(tokens: &'t [LineToken<'s>]) -> Option<(&'t [LineToken<'s>], &'s [u8])>
     ensures { MatchOption result
-        ((pieces : List Lexeme) (name : List ℕ) → IsRuleOf (map seen tokens.now) pieces (Some name) → ⊥)
+        ((pieces : List Lexeme) (name : List ℕ)
+        → IsRuleOf (map seen tokens.now) pieces (Some name) → ⊥)
         (λ found. IsRuleOf (map seen tokens.now) (map seen found.0.now) (Some found.1.now)) }
 {
     let (first, rest) = tokens.split_first()?;
@@ -89,13 +93,13 @@ fn pieces_of_token<'t, 's>(tokens: &'t [Token<'s>]) -> Option<(&'t [Token<'s>], 
 }
 
 /// The bytes of the token, where it is a word.
-fn word_of<'s>(token: &Token<'s>) -> Option<&'s [u8]>
+fn word_of<'s>(token: &LineToken<'s>) -> Option<&'s [u8]>
     ensures { MatchOption result ((text : List ℕ) → seen token.now ≡ word text → ⊥)
         (λ text. seen token.now ≡ word text.now) }
 {
     match token {
-        Token::Word(text) => Some(text),
-        Token::Text(_) | Token::Class(_) | Token::Sign(_) => None,
+        LineToken::Word(text) => Some(text),
+        LineToken::Text(_) | LineToken::Class(_) | LineToken::Sign(_) => None,
     }
 }
 
@@ -103,9 +107,9 @@ fn word_of<'s>(token: &Token<'s>) -> Option<&'s [u8]>
 /// A piece is a string that isn't empty, or a class, followed by at most one `*` or `+`.
 fn sequence_of<'a, 't, 's>(
     arena: &'a Bump<Global>,
-    tokens: &'t [Token<'s>],
+    tokens: &'t [LineToken<'s>],
 ) -> Result<Option<Regex<'a>>, NoMemory>
-    ensures { IfOk result (λ found. MatchOption found (HaveNoBody (map seen tokens.now))
+    ensures { IfOk result (λ found. MatchOption found (HasNo (ArePieces (map seen tokens.now)))
         (λ body. ArePieces (map seen tokens.now) (meaning body))) }
 {
     let mut parts = Vec::new(arena);
@@ -159,10 +163,10 @@ impl Repeat {
 /// The piece with which the tokens begin.
 fn first_piece<'a>(
     arena: &'a Bump<Global>,
-    tokens: &[Token<'_>],
+    tokens: &[LineToken<'_>],
 ) -> Result<Option<(Regex<'a>, Repeat)>, NoMemory>
     requires { 0 < length tokens.now }
-    ensures { IfOk result (λ found. MatchOption found (AreNoPieces (map seen tokens.now))
+    ensures { IfOk result (λ found. MatchOption found (HasNo (Pieces (map seen tokens.now)))
         (λ piece. BeginsPieces tokens.now (meaning piece.0) piece.1)) }
 {
     let Some((token, after)) = tokens.split_first() else {
@@ -176,7 +180,7 @@ fn first_piece<'a>(
 }
 
 /// What the sign says with which the tokens after an atom begin.
-fn first_repeat(tokens: &[Token<'_>]) -> Repeat
+fn first_repeat(tokens: &[LineToken<'_>]) -> Repeat
     ensures fits { token_count result ≤ length tokens.now + 1 }
     ensures signs { BeginsWithSign tokens.now result }
 {
@@ -193,19 +197,22 @@ fn first_repeat(tokens: &[Token<'_>]) -> Repeat
 }
 
 /// The piece that is this token alone; `None` where that is an empty string, a word or a sign.
-fn atom_of<'a>(arena: &'a Bump<Global>, token: &Token<'_>) -> Result<Option<Regex<'a>>, NoMemory>
-    ensures { IfOk result (λ found. MatchOption found (IsNoAtom (seen token.now))
+fn atom_of<'a>(
+    arena: &'a Bump<Global>,
+    token: &LineToken<'_>,
+) -> Result<Option<Regex<'a>>, NoMemory>
+    ensures { IfOk result (λ found. MatchOption found (HasNo (Atom (seen token.now)))
         (λ atom. Atom (seen token.now) (meaning atom))) }
 {
     match token {
-        Token::Text(text) => {
+        LineToken::Text(text) => {
             if text.is_empty() {
                 return Ok(None);
             }
             Ok(Some(Regex::Bytes(arena.try_alloc_slice_copy(text)?)))
         }
-        Token::Class(set) => Ok(Some(Regex::Class(*set))),
-        Token::Word(_) | Token::Sign(_) => Ok(None),
+        LineToken::Class(set) => Ok(Some(Regex::Class(*set))),
+        LineToken::Word(_) | LineToken::Sign(_) => Ok(None),
     }
 }
 

@@ -1,7 +1,8 @@
 ghost use Rattle.std.specs.Prelude.{List, ◌≡◌, ◌↔◌, ◌<◌, ◌≤◌, true, Some, [], ◌∷◌, length, map, IsTrue, IfOk, MatchOption, slice_get, slice_index};
 ghost use Rattle.std.specs.List.{prefix_len};
+ghost use Rattle.ck_base.specs.Found.{HasNo};
 ghost use Rattle.ck_tool.specs.LineTokens.{Lexeme, word, sign, BeginsWith, LineTokens, is_blank, is_letter, word_len, text_len, class_len};
-ghost use Rattle.ck_tool.specs.within.Begins.{BeginsWithNone, BeginsUnblank, HasNoTokens, CutsAt};
+ghost use Rattle.ck_tool.specs.within.Begins.{BeginsWithNone, BeginsUnblank, CutsAt};
 ghost use Rattle.ck_tool.specs.within.Seen.{seen};
 
 use crate::bytes::{is_blank, is_blank_line, is_letter, is_sign, is_text_byte, is_word_byte};
@@ -11,7 +12,7 @@ use std::alloc::Global;
 
 /// A token of a line.
 #[derive(Clone, Copy)]
-pub(crate) enum Token<'s> {
+pub(crate) enum LineToken<'s> {
     /// A word: a letter or `_`, then letters, digits and `_`.
     Word(&'s [u8]),
     /// A string: the bytes between its quotes. It has no escapes, so none of `"` and `\`.
@@ -25,8 +26,8 @@ pub(crate) enum Token<'s> {
 /// The tokens of a line, from left to right; `None` where it has anything else than tokens, blanks
 /// and tabs, as a number, a comment, another sign, or a byte that is neither a tab nor one from
 /// 0x20 to 0x7E. A word is as long as it can be, and tokens needn't be separated.
-pub(crate) fn tokens_of(alloc: Global, line: &[u8]) -> Result<Option<Vec<Token<'_>>>, NoMemory>
-    ensures { IfOk result (λ found. MatchOption found (HasNoTokens line.now)
+pub(crate) fn tokens_of(alloc: Global, line: &[u8]) -> Result<Option<Vec<LineToken<'_>>>, NoMemory>
+    ensures { IfOk result (λ found. MatchOption found (HasNo (LineTokens line.now))
         (λ tokens. LineTokens line.now (map seen tokens.items))) }
 {
     let mut tokens = Vec::new(alloc);
@@ -52,24 +53,25 @@ pub(crate) fn is_alone(line: &[u8], name: &[u8]) -> bool
 }
 
 /// Whether the token is this word.
-pub(crate) fn is_word(token: &Token<'_>, text: &[u8]) -> bool
+pub(crate) fn is_word(token: &LineToken<'_>, text: &[u8]) -> bool
     ensures { IsTrue result ↔ (seen token.now ≡ word text.now) }
 {
-    matches!(token, Token::Word(bytes) if *bytes == text)
+    matches!(token, LineToken::Word(bytes) if *bytes == text)
 }
 
 /// Whether the token is this sign.
-pub(crate) fn is_this_sign(token: &Token<'_>, byte: u8) -> bool
+pub(crate) fn is_this_sign(token: &LineToken<'_>, byte: u8) -> bool
     ensures { IsTrue result ↔ (seen token.now ≡ sign byte) }
 {
-    matches!(token, Token::Sign(sign) if *sign == byte)
+    matches!(token, LineToken::Sign(sign) if *sign == byte)
 }
 
 /// What follows the blanks and tabs with which the bytes begin.
 fn after_blanks(bytes: &[u8]) -> &[u8]
     ensures fits { length result.now ≤ length bytes.now }
     ensures unblank { BeginsUnblank result.now }
-    ensures tokens { (tokens : List Lexeme) → LineTokens result.now tokens ↔ LineTokens bytes.now tokens }
+    ensures tokens { (tokens : List Lexeme)
+        → LineTokens result.now tokens ↔ LineTokens bytes.now tokens }
 {
     &bytes[blank_len(bytes)..]
 }
@@ -83,7 +85,7 @@ fn blank_len(bytes: &[u8]) -> usize
 }
 
 /// The token with which the bytes begin, and what follows it.
-fn first_token(bytes: &[u8]) -> Option<(Token<'_>, &[u8])>
+fn first_token(bytes: &[u8]) -> Option<(LineToken<'_>, &[u8])>
     ensures { MatchOption result (BeginsWithNone bytes.now)
         (λ found. BeginsWith bytes.now (seen found.0) found.1.now) }
 {
@@ -91,20 +93,20 @@ fn first_token(bytes: &[u8]) -> Option<(Token<'_>, &[u8])>
     match *byte {
         b'"' => text_token(after),
         b'[' => class_token(after),
-        sign if is_sign(sign) => Some((Token::Sign(sign), after)),
+        sign if is_sign(sign) => Some((LineToken::Sign(sign), after)),
         letter if is_letter(letter) => Some(word_token(bytes)),
         _ => None,
     }
 }
 
 /// The word with which the bytes begin, and what follows it.
-fn word_token(bytes: &[u8]) -> (Token<'_>, &[u8])
+fn word_token(bytes: &[u8]) -> (LineToken<'_>, &[u8])
     requires some { 0 < length bytes.now }
     requires letter { is_letter (slice_index bytes.now 0) ≡ true }
     ensures { BeginsWith bytes.now (seen result.0) result.1.now }
 {
     let len = word_len(bytes);
-    (Token::Word(&bytes[..len]), &bytes[len..])
+    (LineToken::Word(&bytes[..len]), &bytes[len..])
 }
 
 /// With how many letters, digits and `_` the bytes begin.
@@ -116,12 +118,12 @@ fn word_len(bytes: &[u8]) -> usize
 }
 
 /// The string whose first quote stands before the bytes, and what follows its second quote.
-fn text_token(bytes: &[u8]) -> Option<(Token<'_>, &[u8])>
+fn text_token(bytes: &[u8]) -> Option<(LineToken<'_>, &[u8])>
     ensures { MatchOption result (BeginsWithNone (34 ∷ bytes.now))
         (λ found. BeginsWith (34 ∷ bytes.now) (seen found.0) found.1.now) }
 {
     let (text, after) = cut_at(bytes, text_len(bytes), b'"')?;
-    Some((Token::Text(text), after))
+    Some((LineToken::Text(text), after))
 }
 
 /// How many bytes of a string's text the bytes begin with.
@@ -132,12 +134,12 @@ fn text_len(bytes: &[u8]) -> usize
 }
 
 /// The class whose `[` stands before the bytes, and what follows its `]`.
-fn class_token(bytes: &[u8]) -> Option<(Token<'_>, &[u8])>
+fn class_token(bytes: &[u8]) -> Option<(LineToken<'_>, &[u8])>
     ensures { MatchOption result (BeginsWithNone (91 ∷ bytes.now))
         (λ found. BeginsWith (91 ∷ bytes.now) (seen found.0) found.1.now) }
 {
     let (inside, after) = cut_at(bytes, class_len(bytes), b']')?;
-    Some((Token::Class(class_set(inside)?), after))
+    Some((LineToken::Class(class_set(inside)?), after))
 }
 
 /// How many bytes of a class's inside the bytes begin with.

@@ -26,13 +26,13 @@ const SPEC_LIMIT: usize = 1_048_576;
 /// A source has at most this many bytes.
 const SOURCE_LIMIT: usize = 4_194_304;
 
-/// Runs a command line. `words` are those behind the program's name. The output goes to `out`, and a
-/// line to `err` where there is none.
+/// Runs a command line. `words` are those behind the program's name. The output goes to `out`, and
+/// a line to `err` where there is none.
 ///
 /// ```text
-/// words            after it a specification and a source are named
+/// words            after it a stage, a specification and a source are named
 /// specification    after it the scan rules are known; a fault refuses it
-/// source           after it its tokens are known, and so is the whole output; a bad place refuses it
+/// source           after it what the stage makes of it is known; a bad place refuses it
 /// output           only now is `out` written to
 /// ```
 pub fn cocktail<F: Files, O: Sink, E: Sink>(
@@ -72,7 +72,8 @@ fn answer_of<F: Files>(alloc: Global, command: Command, files: &mut F) -> Result
     ensures answer { (words : List (List ℕ)) → IsAsked words command.entry
         → IfSome (answer_in result) (Wanted (F.contents files.old) words) }
     ensures fault { (words : List (List ℕ)) → IsAsked words command.entry
-        → result ≡ Err Stop.ReadFault → ReadFailed F.contents F.faults words files.old files.new }
+        → result ≡ Err Stop.ReadFault
+        → ReadFailed F.contents F.faults words files.old files.new }
     ensures same { SameContents (F.contents files.old) (F.contents files.new) }
     ensures later { NoneFell (F.faults files.old) (F.faults files.new) }
 {
@@ -113,7 +114,8 @@ fn read<F: Files>(
     requires { limit < 2 ^ 32 }
     ensures all { IfOk result (λ bytes. IsTold (F.contents files.old name.now) bytes.items) }
     ensures within { IfOk result (λ bytes. length bytes.items ≤ limit) }
-    ensures stop { IfErr result (IsStopOfRead too_long (IsLonger (F.contents files.old name.now) limit)
+    ensures stop { IfErr result (IsStopOfRead too_long
+        (IsLonger (F.contents files.old name.now) limit)
         (Rose (F.faults files.old name.now) (F.faults files.new name.now))) }
     ensures same { SameContents (F.contents files.old) (F.contents files.new) }
     ensures later { NoneFell (F.faults files.old) (F.faults files.new) }

@@ -20,6 +20,7 @@ pub mod OneWinner
 pub mod PositionsToWords
 mod RunExamples
 mod ScannerExamples
+pub mod SomeRun
 mod ScanOfWinner
 mod StepOfParts
 mod StepOfString

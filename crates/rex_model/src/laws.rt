@@ -1,4 +1,5 @@
-ghost use Rattle.std.specs.Prelude.{◌≡◌, ℕ, List};
+ghost use Rattle.std.specs.Prelude.{◌≡◌, ◌≤◌, ℕ, List, length};
+ghost use Rattle.ck_base.specs.Found.{HasNo};
 ghost use Rattle.rex_model.specs.RuleMeaning.{rules_of};
 ghost use Rattle.rex_model.specs.Run.{Token, Ending, Tokens};
 ghost use Rattle.rex_model.specs.Winner.{Winner};
@@ -17,4 +18,10 @@ pub fn at_most_one_run(rules: &ScanRules, text: &[u8], state: u32, at: usize)
     ensures { (ts us : List Token) (e f : Ending) →
         Tokens (rules_of rules.now).list text.now state at ts e →
         Tokens (rules_of rules.now).list text.now state at us f → (ts ≡ us) × (e ≡ f) }
+{}
+
+/// Law: from a place and a state on, a text has tokens; it can't be that there are none.
+pub fn some_run(rules: &ScanRules, text: &[u8], state: u32, at: usize)
+    ensures { at ≤ length text.now → HasNo (λ tokens. (ending : Ending) ×
+        Tokens (rules_of rules.now).list text.now state at tokens ending) → ⊥ }
 {}

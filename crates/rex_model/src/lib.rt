@@ -38,7 +38,7 @@ mod winner;
 pub use counts::positions;
 pub use empty_word::nullable;
 pub use follows::follow;
-pub use laws::{at_most_one_run, at_most_one_winner};
+pub use laws::{at_most_one_run, at_most_one_winner, some_run};
 pub use position_sets::PositionSets;
 pub use regex::Regex;
 pub use rules::{ScanRule, ScanRules};

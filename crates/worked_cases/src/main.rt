@@ -5,7 +5,7 @@
 //! | the cases, as a person writes them | `data/*.txt`; the form is told in `data/README.md` |
 //! | a case; how it is read from its text | `src/case.rt`; `src/reading.rt`, `src/escapes.rt` |
 //! | how a case is run and judged | `src/running.rt`, `src/judging.rt` |
-//! | cases that are made; the line of each refusal | `src/made.rt`; `src/refusals.rt` |
+//! | cases that are made | `src/made.rt` |
 //! | edges of std: the disk, a writer that is full | `src/disk.rt` |
 //! | calls that want memory and that no case reaches | `src/ample.rt` |
 #![tactic(auto)]
@@ -17,7 +17,6 @@ mod escapes;
 mod judging;
 mod made;
 mod reading;
-mod refusals;
 mod running;
 
 use anyhow::{Context, Result, bail};
@@ -42,7 +41,6 @@ fn main(rt: HostRuntime) -> Result<()> {
         }
     }
     made::judge_all(&rt, &mut tally)?;
-    refusals::judge_all(&rt, &mut tally)?;
     disk::try_edges(&rt)?;
     ample::call_all(rt.alloc())?;
     println!(rt; "{} cases hold", tally.held)?;

@@ -2,7 +2,7 @@
 use Rattle.std.specs.Prelude.{◌≡◌, ℕ, ◌+◌, ◌<◌, ◌≤◌, ◌⊎◌, List, ◌∷◌, length, take, drop, Some, true, false, slice_get}
 use Rattle.rex_model.specs.Language.{IsIn}
 use Rattle.rex_model.specs.Meaning.{set_of}
-use Rattle.ck_tool.specs.LineTokens.{Span, Spans, IsClass, set_of_spans, Lexeme, BeginsWith, LineTokens, is_blank, is_class_byte}
+use Rattle.ck_tool.specs.LineTokens.{Span, Spans, IsClass, set_of_spans, Lexeme, BeginsWith, is_blank, is_class_byte}
 
 -- a span may go from low to high
 abbrev pub IsSpan : ℕ → ℕ → Type 0
@@ -21,19 +21,11 @@ pub record BeginsSpans (inside : List ℕ) (low high : ℕ) (rest : List ℕ) : 
   pub others : (spans : List Span) → Spans inside spans
       → (more : List Span) × (spans ≡ record { low = low; high = high } ∷ more) × Spans rest more
 
--- the inside of a class lists no spans
-abbrev pub HasNoSpans : List ℕ → Type 0
-HasNoSpans inside = (spans : List Span) → Spans inside spans → ⊥
-
 -- the words have the bytes that the inside of a class lists
 pub record IsSetOf (inside words : List ℕ) : Type 0 where
   pub spans : List Span
   pub is_class : IsClass inside spans
   pub same : set_of words ≡ set_of_spans spans
-
--- it is no inside of a class
-abbrev pub IsNoClass : List ℕ → Type 0
-IsNoClass inside = (spans : List Span) → IsClass inside spans → ⊥
 
 -- the new set of bytes is the old one with the bytes from low to high
 pub record AddsSpan (old new : List ℕ) (low high : ℕ) : Type 0 where
@@ -45,10 +37,6 @@ pub record AddsSpan (old new : List ℕ) (low high : ℕ) : Type 0 where
 -- the line begins with no token
 abbrev pub BeginsWithNone : List ℕ → Type 0
 BeginsWithNone line = (token : Lexeme) (rest : List ℕ) → BeginsWith line token rest → ⊥
-
--- the line has no tokens: something in it is none
-abbrev pub HasNoTokens : List ℕ → Type 0
-HasNoTokens line = (tokens : List Lexeme) → LineTokens line tokens → ⊥
 
 -- the line doesn't begin with a blank
 abbrev pub BeginsUnblank : List ℕ → Type 0

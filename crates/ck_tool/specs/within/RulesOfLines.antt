@@ -7,8 +7,9 @@ use Rattle.ck_base.specs.declared.fault.SpecFault.{SpecFault}
 use Rattle.ck_base.specs.declared.fault.SpecFault.TheVariants.{Bad, NoMemory}
 use Rattle.rex_model.specs.RuleMeaning.{rule_of}
 use Rattle.rex_model.specs.declared.rules.ScanRule.{ScanRule}
+use Rattle.ck_base.specs.Found.{HasNo}
 use Rattle.ck_tool.specs.NumberedLines.{NumberedLine}
-use Rattle.ck_tool.specs.RuleShape.{Declaration, DeclaresOne, HasNoShape}
+use Rattle.ck_tool.specs.RuleShape.{Declaration, DeclaresOne}
 use Rattle.ck_tool.specs.Declares.{RuleLines, FirstWithoutShape, Fault, token_names, rule_in}
 use Rattle.ck_tool.specs.Sections.{IsEnd, NoneIsEnd, SectionFault}
 
@@ -43,7 +44,7 @@ pub record IsFirstEnd (lines : List NumberedLine) (place : ℕ) : Type 0 where
 
 -- the fault is that the line has neither shape, or want of memory
 abbrev pub IsFaultOfLine : NumberedLine → SpecFault → Type 0
-IsFaultOfLine line (Bad number kind) = (number ≡ line.number) × (kind ≡ Syntax) × HasNoShape line.text
+IsFaultOfLine line (Bad number kind) = (number ≡ line.number) × (kind ≡ Syntax) × HasNo (DeclaresOne line.text)
 IsFaultOfLine line NoMemory = Unit {0}
 
 -- the fault is the first of these lines that has neither shape, or want of memory
