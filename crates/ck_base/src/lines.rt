@@ -2,7 +2,7 @@ ghost use Rattle.std.specs.Prelude.{◌≡◌, IfOk, ◌++◌, codes, map};
 ghost use Rattle.std.specs.List.{concat};
 ghost use Rattle.std.specs.Fmt.{decimal};
 ghost use Rattle.ck_base.specs.Lines.{line_of, kind_text_of, source_line, states_text_of};
-ghost use Rattle.ck_base.specs.declared.refusal.Refusal.TheVariants.{BadSpec, LalrConflict, LlConflict, NullableRule, SpentBudget, TooManyStates, UsedUp};
+ghost use Rattle.ck_base.specs.declared.refusal.Refusal.TheVariants.{BadSpec, LalrConflict, LlConflict, NullableRule, SpentBudget, TooManyStates, UsedUp, ZeroCycle};
 
 use crate::fault::{Kind, NoMemory};
 use crate::name::Name;
@@ -25,71 +25,56 @@ impl Refusal {
         ensures { IfOk result (λ text. text.items ≡ line_of self.now) }
     {
         match self {
-            Refusal::Usage => joined(alloc, &[USAGE_LINE]),
-            Refusal::SpecTooLong => joined(alloc, &[b"spec: longer than 1048576 bytes"]),
-            Refusal::BadSpec { line, kind } => bad_spec(alloc, *line, *kind),
-            Refusal::NullableRule { rule } => nullable_rule(alloc, *rule),
-            Refusal::TooManyStates { kind } => too_many_states(alloc, *kind),
-            Refusal::Unproductive { name } => named(alloc, b"spec: ", name, b" derives no word"),
-            Refusal::Cyclic { name } => named(alloc, b"spec: ", name, b" derives itself"),
-            Refusal::HiddenLeft { name } => named(
-                alloc,
-                b"spec: ",
-                name,
-                b" is hidden left recursive",
-            ),
-            Refusal::LeftRecursive { name } => named(alloc, b"spec: ", name, b" is left recursive"),
-            Refusal::LalrConflict {
+            Self::Usage => joined(alloc, &[USAGE_LINE]),
+            Self::SpecTooLong => joined(alloc, &[b"spec: longer than 1048576 bytes"]),
+            Self::BadSpec { line, kind } => bad_spec(alloc, *line, *kind),
+            Self::NullableRule { rule } => nullable_rule(alloc, *rule),
+            Self::TooManyStates { kind } => too_many_states(alloc, *kind),
+            Self::Unproductive { name } => spec_name(alloc, name, b" derives no word"),
+            Self::Cyclic { name } => spec_name(alloc, name, b" derives itself"),
+            Self::HiddenLeft { name } => spec_name(alloc, name, b" is hidden left recursive"),
+            Self::LeftRecursive { name } => spec_name(alloc, name, b" is left recursive"),
+            Self::LalrConflict {
                 terminal,
                 rule,
                 other,
             } => lalr_conflict(alloc, terminal, rule, other),
-            Refusal::LlConflict {
+            Self::LlConflict {
                 name,
                 rule,
                 other,
                 terminal,
             } => ll_conflict(alloc, terminal, name, rule, other),
-            Refusal::RootInherits { attribute } => named(
-                alloc,
-                b"spec: root inherits ",
-                attribute,
-                b"",
-            ),
-            Refusal::TwoEquations { holder, target } => targeted(
+            Self::RootInherits { attribute: a } => named(alloc, b"spec: root inherits ", a, b""),
+            Self::TwoEquations { holder, target } => targeted(
                 alloc,
                 b"spec: two equations for ",
                 holder,
                 target,
             ),
-            Refusal::NoEquation { holder, target } => targeted(
+            Self::NoEquation { holder, target } => targeted(
                 alloc,
                 b"spec: no equation for ",
                 holder,
                 target,
             ),
-            Refusal::NotOrdered { holder, target } => targeted(
+            Self::NotOrdered { holder, target } => targeted(
                 alloc,
                 b"spec: not ordered at ",
                 holder,
                 target,
             ),
-            Refusal::ZeroCycle { name } => named(
-                alloc,
-                b"spec: chain rules of ",
-                name,
-                b" cost nothing",
-            ),
-            Refusal::MissingSection { section } => named(alloc, b"spec: no section ", section, b""),
-            Refusal::SourceTooLong => joined(alloc, &[b"source: longer than 4194304 bytes"]),
-            Refusal::BadToken { line, col } => placed(alloc, *line, *col, b"bad token"),
-            Refusal::SyntaxError { line, col } => placed(alloc, *line, *col, b"syntax error"),
-            Refusal::SourceTooLarge => joined(alloc, &[b"source: tree of more than 1048576 nodes"]),
-            Refusal::NoRule { routine } => named(alloc, b"rewrite: no rule of ", routine, b""),
-            Refusal::SpentBudget { budget } => spent_budget(alloc, *budget),
-            Refusal::TargetTooLarge => joined(alloc, &[b"code: tree of more than 1048576 nodes"]),
-            Refusal::NoCover => joined(alloc, &[b"code: no cover"]),
-            Refusal::UsedUp { class, need, have } => used_up(alloc, class, *need, *have),
+            Self::ZeroCycle { name } => zero_cycle(alloc, name),
+            Self::MissingSection { section } => named(alloc, b"spec: no section ", section, b""),
+            Self::SourceTooLong => joined(alloc, &[b"source: longer than 4194304 bytes"]),
+            Self::BadToken { line, col } => placed(alloc, *line, *col, b"bad token"),
+            Self::SyntaxError { line, col } => placed(alloc, *line, *col, b"syntax error"),
+            Self::SourceTooLarge => joined(alloc, &[b"source: tree of more than 1048576 nodes"]),
+            Self::NoRule { routine } => named(alloc, b"rewrite: no rule of ", routine, b""),
+            Self::SpentBudget { budget } => spent_budget(alloc, *budget),
+            Self::TargetTooLarge => joined(alloc, &[b"code: tree of more than 1048576 nodes"]),
+            Self::NoCover => joined(alloc, &[b"code: no cover"]),
+            Self::UsedUp { class, need, have } => used_up(alloc, class, *need, *have),
         }
     }
 }
@@ -171,7 +156,8 @@ fn ll_conflict(
     rule: &Name,
     other: &Name,
 ) -> Result<Vec<u8>, NoMemory>
-    ensures { IfOk result (λ text. text.items ≡ line_of (LlConflict name.now rule.now other.now terminal.now)) }
+    ensures { IfOk result (λ text.
+        text.items ≡ line_of (LlConflict name.now rule.now other.now terminal.now)) }
 {
     let (terminal, name) = (terminal.bytes(), name.bytes());
     let (rule, other) = (rule.bytes(), other.bytes());
@@ -218,6 +204,20 @@ fn used_up(alloc: Global, class: &Name, need: u32, have: u32) -> Result<Vec<u8>,
             have.as_bytes(),
         ],
     )
+}
+
+/// The line of chain rules that cost nothing.
+fn zero_cycle(alloc: Global, name: &Name) -> Result<Vec<u8>, NoMemory>
+    ensures { IfOk result (λ text. text.items ≡ line_of (ZeroCycle name.now)) }
+{
+    named(alloc, b"spec: chain rules of ", name, b" cost nothing")
+}
+
+/// A line that says this of a name of the specification.
+fn spec_name(alloc: Global, name: &Name, what: &[u8]) -> Result<Vec<u8>, NoMemory>
+    ensures { IfOk result (λ text. text.items ≡ codes "spec: " ++ (name.now ++ what.now)) }
+{
+    named(alloc, b"spec: ", name, what)
 }
 
 /// A line that names one thing.
