@@ -1,5 +1,8 @@
 pub mod Cfg
+pub mod Cores
 pub mod Derivation
+pub mod Items
+pub mod LalrConflicts
 pub mod LlConflicts
 pub mod LlTables
 pub mod Rows
@@ -7,4 +10,5 @@ pub mod Searches
 pub mod Sets
 pub mod Steps
 pub mod Table
+pub mod Valid
 pub mod within
