@@ -1,4 +1,5 @@
--- Names with numbers: a list of byte strings without doubles, in which a name's number is its place.
+-- Names with numbers: a list of byte strings without doubles, in which a name's number is its place. Sets with
+-- numbers are the same, by their words.
 use Rattle.std.specs.Prelude.{◌≡◌, ℕ, ◌^◌, ◌<◌, List, [], ◌∷◌, ◌++◌, length, map, if◌then◌else◌, Vec, Option, Some, is_some, slice_get}
 use Rattle.std.specs.List.{position}
 use Rattle.std.specs.Str.{bytes_eq}

@@ -1,6 +1,6 @@
 ghost use Rattle.std.specs.Prelude.{◌≡◌, ◌<◌, ◌↔◌, length, IsTrue, IfOk};
 ghost use Rattle.ck_base.specs.BitSet.{Has, IsEmpty, Adds, Grew};
-ghost use Rattle.ck_base.specs.Words.{AreJoined, Differ};
+ghost use Rattle.ck_base.specs.Words.{AreJoined, Differ, IsFit};
 
 use crate::fault::NoMemory;
 use std::alloc::Global;
@@ -39,6 +39,14 @@ impl Bits {
         ensures { result ≡ self.now.size }
     {
         self.size
+    }
+
+    /// The words of the set, with 64 numbers a word: number i is bit i % 64 of word i / 64.
+    pub fn words(&self) -> &[u64]
+        ensures words { result.now ≡ self.now.words }
+        ensures fit { IsFit self.now.size self.now.words }
+    {
+        self.words.as_slice()
     }
 
     /// Puts the number in.
