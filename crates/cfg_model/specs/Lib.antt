@@ -1,5 +1,8 @@
 pub mod Cfg
+pub mod Cores
 pub mod Derivation
+pub mod Items
+pub mod LalrConflicts
 pub mod LeftRanks
 pub mod LlConflicts
 pub mod LlTables
@@ -8,4 +11,5 @@ pub mod Searches
 pub mod Sets
 pub mod Steps
 pub mod Table
+pub mod Valid
 pub mod within
