@@ -6,6 +6,7 @@ pub mod LalrConflicts
 pub mod LeftRanks
 pub mod LlConflicts
 pub mod LlTables
+pub mod LrTables
 pub mod Rows
 pub mod Searches
 pub mod Sets

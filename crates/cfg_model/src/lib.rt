@@ -10,7 +10,7 @@
 //! | valid items, cores, united lookaheads; their laws | `specs/Valid.antt`; `src/lalr_laws.rt` |
 //! | the numbering of cores; LALR conflicts | `specs/Cores.antt`; `specs/LalrConflicts.antt` |
 //! | items without lookaheads | `specs/Items.antt`, `src/items.rt` |
-//! | LR tables; why a grammar has none | `src/table.rt`, `src/action.rt`; `src/refused.rt` |
+//! | LR tables; why a grammar has none | `src/table.rt`, `src/action.rt`, `specs/LrTables.antt`; `src/refused.rt` |
 #![tactic(auto)]
 
 mod action;
