@@ -1,11 +1,16 @@
 pub mod Cfg
+pub mod Cores
 pub mod Derivation
+pub mod Items
+pub mod LalrConflicts
 pub mod LeftRanks
 pub mod LlConflicts
 pub mod LlTables
+pub mod LrTables
 pub mod Rows
 pub mod Searches
 pub mod Sets
 pub mod Steps
 pub mod Table
+pub mod Valid
 pub mod within

@@ -7,7 +7,10 @@
 //! | nullable, productive, reachable, FIRST, FOLLOW | `specs/Sets.antt`; sets as answers: `specs/Rows.antt` |
 //! | cyclic, hidden left recursive, left recursive; the least one | `specs/Searches.antt` |
 //! | LL(1) conflicts; LL tables | `specs/LlConflicts.antt`; `src/ll_table.rt`, `specs/LlTables.antt` |
-//! | LR tables; why a grammar has none | `src/table.rt`, `src/action.rt`; `src/refused.rt` |
+//! | valid items, cores, united lookaheads; their laws | `specs/Valid.antt`; `src/lalr_laws.rt` |
+//! | the numbering of cores; LALR conflicts | `specs/Cores.antt`; `specs/LalrConflicts.antt` |
+//! | items without lookaheads | `specs/Items.antt`, `src/items.rt` |
+//! | LR tables; why a grammar has none | `src/table.rt`, `src/action.rt`, `specs/LrTables.antt`; `src/refused.rt` |
 #![tactic(auto)]
 
 mod action;
@@ -19,6 +22,8 @@ mod first_sets;
 mod follow_sets;
 mod grammar;
 mod hiding;
+mod items;
+mod lalr_laws;
 mod least;
 mod left_ranks;
 mod ll_table;
@@ -40,6 +45,7 @@ pub use first_sets::first;
 pub use follow_sets::follow;
 pub use grammar::{Grammar, GrammarRule};
 pub use hiding::hidden_left;
+pub use lalr_laws::{cores_are_viable, lookaheads_spread, rule_0_has_no_conflict};
 pub use least::unproductive;
 pub use left_ranks::{LeftRanks, ranks};
 pub use ll_table::LlTable;

@@ -1,0 +1,31 @@
+ghost use Rattle.std.specs.Prelude.{◌≡◌, ℕ, List, ◌↔◌, ◌<◌, ◌⊎◌, ◌∷◌, [], reverse, Option, Some, None};
+ghost use Rattle.cfg_model.specs.declared.symbol.Sym.{Sym};
+ghost use Rattle.cfg_model.specs.Cfg.{Cfg, IsGrammar};
+ghost use Rattle.cfg_model.specs.Steps.{Steps, word};
+ghost use Rattle.cfg_model.specs.Sets.{AllProductive, Reachable};
+ghost use Rattle.cfg_model.specs.Searches.{Cyclic};
+ghost use Rattle.cfg_model.specs.Derivation.{IsViable};
+ghost use Rattle.cfg_model.specs.LalrConflicts.{LalrConflict};
+ghost use Rattle.cfg_model.specs.Valid.{Look, Spreads, HasCore};
+
+/// Law: the united lookaheads are the least relation over core, item and terminal with the rules of
+/// valid items read on cores.
+pub fn lookaheads_spread()
+    ensures { (g : Cfg) (p : List Sym) (r d : ℕ) (y : List Sym) (a : ℕ)
+        → Look g p r d y a ↔ Spreads g p r d y a }
+{}
+
+/// Law: where every nonterminal derives a word and the core of a prefix isn't empty, each word that the
+/// prefix derives is viable. The prefix has its last symbol first.
+pub fn cores_are_viable()
+    ensures { (g : Cfg) (p : List Sym) (u : List ℕ) → IsGrammar g → AllProductive g → HasCore g p
+        → Steps g (reverse p) (word u) → IsViable g u }
+{}
+
+/// Law: where the grammar isn't cyclic, rule 0 stands in no conflict.
+pub fn rule_0_has_no_conflict()
+    ensures first { (g : Cfg) (t : ℕ) (other : Option ℕ) → IsGrammar g
+        → ((n : ℕ) → Reachable g n → Cyclic g n → ⊥) → LalrConflict g t 0 other → ⊥ }
+    ensures other { (g : Cfg) (t r : ℕ) → IsGrammar g
+        → ((n : ℕ) → Reachable g n → Cyclic g n → ⊥) → LalrConflict g t r (Some 0) → ⊥ }
+{}

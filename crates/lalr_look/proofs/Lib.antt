@@ -1,0 +1,16 @@
+pub mod Flowing
+pub mod Graph
+pub mod Grown
+pub mod Holes
+pub mod Items
+pub mod Joined
+pub mod Looking
+pub mod Numbering
+pub mod OfPrefix
+pub mod Ordered
+pub mod Rests
+pub mod RowsChanged
+pub mod RowsOf
+pub mod Slots
+pub mod Sorting
+pub mod Turns
