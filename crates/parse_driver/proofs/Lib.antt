@@ -1,3 +1,4 @@
+mod Examples
 pub mod Labels
 pub mod Stack
 pub mod Turn
