@@ -1,5 +1,5 @@
 -- The numbers of lines grow, and there are no more lines than bytes.
-use Rattle.std.proofs.Common.{◌≡◌, ℕ, zero, suc, ◌+◌, ◌-◌, ◌≤◌, List, [], ◌∷◌, length, take, drop, refl, ap, ◌∙◌, Option, Some, arith, length-append}
+use Rattle.std.proofs.Common.{◌≡◌, ℕ, zero, suc, ◌+◌, ◌-◌, ◌≤◌, List, [], ◌∷◌, length, take, drop, refl, ap, ◌∙◌, Option, Some, arith, length-append, length-take, length-drop}
 use Rattle.std.specs.List.{slice_get}
 use Rattle.ck_base.specs.declared.fault.Kind.{Kind}
 use Rattle.spec_text.specs.Reading.{Placed}
@@ -87,3 +87,13 @@ lines_few _ _ (speaks x texts tokens bad lines reads says more) = let less = lin
 pub file_few : (file : List ℕ) (lines : List Line) (count : ℕ) → FileLines file lines count → length lines ≤ length file
 file_few file lines count read =
     let a = lines_few read.texts lines read.read in let b = texts_few 1 0 file read.texts read.are in omega (arith, a, b)
+
+-- no more lines in a section than bytes in the file
+length_part : {X : Type 0} (xs : List X) (from n : ℕ) → length (take n (drop from xs)) ≤ length xs
+length_part xs from n = let a = length-take n (drop from xs) in let b = length-drop from xs in omega (arith, a, b)
+
+pub section_few : (file : List ℕ) (section : Section) (these : SectionLines) → HasSection file section these → length these.inside ≤ length file
+section_few file section these has =
+    let less = length_part has.lines has.part.first (has.part.end - has.part.first) in
+    let few = file_few file has.lines has.sections.count has.sections.read in
+    let same = ap length has.part_is.are in omega (arith, less, few, same)
