@@ -1,0 +1,69 @@
+-- The definitions, tried where the nearest wrong reading differs.
+use Rattle.std.proofs.Common.{◌≡◌, ℕ, true, false, List, [], ◌∷◌, Some, None, refl, sym, codes, arith}
+use Rattle.ck_base.specs.declared.fault.Kind.TheVariants.{Twice, Unknown}
+use Rattle.spec_text.specs.Declares.{Declared}
+use Rattle.front_spec.specs.RexShapes.{SaidRule, Saying, state, rule}
+use Rattle.front_spec.specs.RexFaults.{all_states, all_positions, NamesState, active, next, RexFault, second_state, no_state}
+use Rattle.front_spec.specs.RexRules.{active_in}
+use Rattle.rex_model.specs.Language.{Re, bytes, star, sequence}
+use Rattle.rex_model.specs.Meaning.{sequence_of}
+use Rattle.spec_text.specs.Lexemes.{Lexeme, text, sign}
+use Rattle.spec_text.specs.Parts.{last_one, one_more, last, Behind, Before, second as by_second, first as by_first}
+use Rattle.front_spec.specs.Regexes.{Written, Leaf, a_string, a_star, plain, signed, with_sign, RegexOver, AtomIn, RegexIn}
+
+-- "a" "b"* has a nesting of 3
+pub row_of_two : (rest : List Lexeme) → RegexOver (AtomIn 0) (text (codes "a") ∷ text (codes "b") ∷ sign (codes "*") ∷ rest)
+    (record { re = sequence (bytes (codes "a")) (sequence (star (bytes (codes "b"))) (bytes [])); nesting = 3 }) rest
+row_of_two rest = record {
+  is = record {
+    v = record { re = sequence (bytes (codes "a")) (sequence (star (bytes (codes "b"))) (bytes [])); nesting = 3 } ∷ [];
+    is = last _ rest _ (record {
+      v = record { re = bytes (codes "a"); nesting = 1 } ∷ record { re = star (bytes (codes "b")); nesting = 2 } ∷ [];
+      is = one_more _ (text (codes "b") ∷ sign (codes "*") ∷ rest) rest _ _
+          (record { is = plain _ _ _ (a_string (text (codes "b") ∷ sign (codes "*") ∷ rest) (codes "a")); within = omega arith })
+          (last_one _ rest _ (record {
+            is = signed a_star _ (sign (codes "*") ∷ rest) rest (record { re = bytes (codes "b"); nesting = 1 }) (plain _ _ _ (a_string (sign (codes "*") ∷ rest) (codes "b"))) refl;
+            within = omega arith;
+          }));
+      said = refl;
+    });
+    said = refl;
+  };
+  within = omega arith;
+}
+
+-- STD is there without a line, so a line of it is of kind twice, also the first one
+pub std_again : (ds : List (Declared Saying)) → RexFault ds Twice 0 (state (codes "STD"))
+std_again ds = second_state 0 (codes "STD") (0, omega arith, refl)
+
+abbrev only_a : SaidRule
+only_a = record { states = None; body = bytes (codes "a"); context = None; token = Some (codes "A"); next = Some (codes "X") }
+
+abbrev with_state : List (Declared Saying)
+with_state = record { number = 2; said = rule only_a } ∷ record { number = 3; said = state (codes "X") } ∷ []
+
+-- a state may be named before its line
+pub declared_later : RexFault with_state Unknown 0 (rule only_a) → ⊥
+declared_later fault = by (rule only_a) refl fault
+  where
+    named : (name : List ℕ) → NamesState only_a name → name ≡ codes "X"
+    named name (active names is among) = cc
+    named name (next is) = (let same : codes "X" ≡ name = cc in sym same)
+
+    by : (said : Saying) → said ≡ rule only_a → RexFault with_state Unknown 0 said → ⊥
+    by _ same (no_state _ said name names absent) =
+        let its : said ≡ only_a = cc in
+        absent (rw (named name (rw its at names)) (1, omega arith, refl))
+
+-- a rule that names no state is active in STD alone, and not in all of them
+pub std_alone : (active_in (all_states with_state) None 0 ≡ true) × (active_in (all_states with_state) None 1 ≡ false)
+std_alone = (refl, refl)
+
+-- one that names a state isn't active in STD
+pub in_x_alone : (active_in (all_states with_state) (Some (codes "X" ∷ [])) 0 ≡ false)
+    × (active_in (all_states with_state) (Some (codes "X" ∷ [])) 1 ≡ true)
+in_x_alone = (refl, refl)
+
+-- the end mark is a position too
+pub end_mark_counts : all_positions with_state ≡ 2
+end_mark_counts = refl

@@ -1,0 +1,211 @@
+-- The scan rules that are made are those that the lines declare.
+use Rattle.std.proofs.Common.{◌≡◌, ℕ, zero, suc, ◌+◌, ◌<◌, ◌≤◌, ◌⊎◌, inl, inr, Bool, true, false, ◌||◌, ◌==◌, IsTrue, List, [], ◌∷◌, ◌++◌, length, take, map, refl, sym, ap, ◌∙◌, Option, Some, None, arith, rules}
+use Rattle.std.specs.List.{slice_get, list_any}
+use Rattle.std.proofs.Math.Path.{fun_ext}
+use Rattle.std.proofs.lemmas.List.{append-nil, map-append}
+use Rattle.std.proofs.lemmas.List.Folds.{list_any-append}
+use Rattle.ck_base.specs.BitSet.{BitSet, Has, IsEmpty, Adds}
+use Rattle.ck_base.specs.Numbered.{number_of, met}
+use Rattle.ck_base.proofs.NamesMet.{met-append, length-met}
+use Rattle.rex_model.specs.Language.{Re}
+use Rattle.rex_model.specs.Rules.{Rule, Rules}
+use Rattle.rex_model.specs.RuleMeaning.{contains, rule_of}
+use Rattle.rex_model.specs.declared.rules.ScanRule.{ScanRule}
+use Rattle.rex_model.proofs.MeantRules.{contains_has}
+use Rattle.spec_text.specs.Declares.{Declared}
+use Rattle.spec_text.proofs.Lists.{take_step, take_all}
+use Rattle.front_spec.specs.RexShapes.{SaidRule, Saying, state, rule}
+use Rattle.front_spec.specs.RexRules.{add_rule, rules_in, add_token, tokens_in, number_in, is_number, active_in, rule_by}
+use Rattle.front_spec.specs.Steps.{AddsActive}
+
+-- rules and tokens of one line more
+rules_at_end : (ds : List (Declared Saying)) (d : Declared Saying) → rules_in (ds ++ d ∷ []) ≡ rules_in ds ++ add_rule d.said []
+rules_at_end [] d = refl
+rules_at_end (e ∷ ds) d = by e.said (rules_at_end ds d)
+  where
+    by : (said : Saying) → rules_in (ds ++ d ∷ []) ≡ rules_in ds ++ add_rule d.said []
+        → add_rule said (rules_in (ds ++ d ∷ [])) ≡ add_rule said (rules_in ds) ++ add_rule d.said []
+    by (state name) same = same
+    by (rule said) same = ap (λ l. said ∷ l) same
+
+tokens_together : (first second : List SaidRule) → tokens_in (first ++ second) ≡ tokens_in first ++ tokens_in second
+tokens_together [] second = refl
+tokens_together (said ∷ first) second = by said.token (tokens_together first second)
+  where
+    by : (token : Option (List ℕ)) → tokens_in (first ++ second) ≡ tokens_in first ++ tokens_in second
+        → add_token token (tokens_in (first ++ second)) ≡ add_token token (tokens_in first) ++ tokens_in second
+    by None same = same
+    by (Some name) same = ap (λ l. name ∷ l) same
+
+next_rules : (ds : List (Declared Saying)) (i : ℕ) (d : Declared Saying) → slice_get ds i ≡ Some d
+    → rules_in (take (i + 1) ds) ≡ rules_in (take i ds) ++ add_rule d.said []
+next_rules ds i d at = ap rules_in (take_step ds i d at) ∙ rules_at_end (take i ds) d
+
+few_rules : (ds : List (Declared Saying)) (i : ℕ) → length (tokens_in (rules_in (take i ds))) ≤ i
+few_rules ds zero = omega arith
+few_rules [] (suc i) = omega arith
+few_rules (d ∷ ds) (suc i) = by d.said (few_rules ds i)
+  where
+    add : (token : Option (List ℕ)) (names : List (List ℕ)) → length (add_token token names) ≤ length names + 1
+    add None names = omega arith
+    add (Some name) names = omega arith
+
+    by : (said : Saying) → length (tokens_in (rules_in (take i ds))) ≤ i → length (tokens_in (add_rule said (rules_in (take i ds)))) ≤ suc i
+    by (state name) less = omega (arith, less)
+    by (rule said) less = let more = add said.token (tokens_in (rules_in (take i ds))) in omega (arith, less, more)
+
+-- the names of tokens so far
+pub record TokensSoFar (ds : List (Declared Saying)) (i : ℕ) (names : List (List ℕ)) : Type 0 where
+  pub are : names ≡ met [] (tokens_in (rules_in (take i ds)))
+  pub few : length names ≤ i
+
+tokens_few : (ds : List (Declared Saying)) (i : ℕ) (names : List (List ℕ)) → names ≡ met [] (tokens_in (rules_in (take i ds))) → length names ≤ i
+tokens_few ds i names are =
+    let long = length-met [] (tokens_in (rules_in (take i ds))) in
+    let less = few_rules ds i in let same = ap length are in omega (arith, long, less, same)
+
+pub no_tokens_yet : (ds : List (Declared Saying)) (names : List (List ℕ)) → names ≡ [] → TokensSoFar ds 0 names
+no_tokens_yet ds names empty = record { are = empty; few = tokens_few ds 0 names empty }
+
+pub one_token : (ds : List (Declared Saying)) (i : ℕ) (old new : List (List ℕ)) (d : Declared Saying) → slice_get ds i ≡ Some d
+    → TokensSoFar ds i old → new ≡ met old (tokens_in (add_rule d.said [])) → TokensSoFar ds (i + 1) new
+one_token ds i old new d at so are =
+    let all : new ≡ met [] (tokens_in (rules_in (take (i + 1) ds))) =
+        are ∙ ap (λ l. met l (tokens_in (add_rule d.said []))) so.are
+            ∙ sym (met-append [] (tokens_in (rules_in (take i ds))) (tokens_in (add_rule d.said [])))
+            ∙ ap (met []) (sym (tokens_together (rules_in (take i ds)) (add_rule d.said [])) ∙ ap tokens_in (sym (next_rules ds i d at))) in
+    record { are = all; few = tokens_few ds (i + 1) new all }
+
+pub all_tokens : (ds : List (Declared Saying)) (i : ℕ) (names : List (List ℕ)) → i ≡ length ds → TokensSoFar ds i names
+    → names ≡ met [] (tokens_in (rules_in ds))
+all_tokens ds i names end so = so.are ∙ ap (λ l. met [] (tokens_in (rules_in l))) (take_all ds i end)
+
+-- the rules so far
+module _ (states tokens : List (List ℕ)) (ds : List (Declared Saying)) where
+  abbrev pub RulesSoFar : ℕ → List Rule → Type 0
+  RulesSoFar i made = made ≡ map (rule_by states tokens) (rules_in (take i ds))
+
+  pub one_rule : (i : ℕ) (old new : List Rule) (d : Declared Saying) → slice_get ds i ≡ Some d → RulesSoFar i old
+      → new ≡ old ++ map (rule_by states tokens) (add_rule d.said []) → RulesSoFar (i + 1) new
+  one_rule i old new d at so are =
+      are ∙ ap (λ l. l ++ map (rule_by states tokens) (add_rule d.said [])) so
+          ∙ sym (map-append (rule_by states tokens) (rules_in (take i ds)) (add_rule d.said []))
+          ∙ ap (map (rule_by states tokens)) (sym (next_rules ds i d at))
+
+  pub all_rules : (i : ℕ) (made : List Rule) → i ≡ length ds → RulesSoFar i made → made ≡ map (rule_by states tokens) (rules_in ds)
+  all_rules i made end so = so ∙ ap (λ l. map (rule_by states tokens) (rules_in l)) (take_all ds i end)
+
+-- a rule by its parts
+pub made_rule : (states tokens : List (List ℕ)) (said : SaidRule) (active : ℕ → Bool) (body : Re) (context : Option Re) (token next : Option ℕ)
+    → active ≡ active_in states said.states → body ≡ said.body → context ≡ said.context → token ≡ number_in tokens said.token
+    → next ≡ number_in states said.next
+    → ◌≡◌ {A = Rule} (record { active = active; body = body; context = context; token = token; next = next }) (rule_by states tokens said)
+made_rule states tokens said active body context token next a b c t n = rw (a, b, c, t, n) refl
+
+-- the states where a rule is active
+same_bool : (a b : Bool) → (a ≡ true → b ≡ true) → (b ≡ true → a ≡ true) → a ≡ b
+same_bool true true f g = refl
+same_bool true false f g = sym (f refl)
+same_bool false true f g = g refl
+same_bool false false f g = refl
+
+pub active_made : (old new : BitSet) (known : List (List ℕ)) (names : Option (List (List ℕ))) → IsEmpty old → AddsActive old new known names
+    → contains new ≡ active_in known names
+active_made old new known names empty adds = fun_ext (λ k. same_bool (contains new k) (active_in known names k)
+    (λ has. one k (adds.only k ((contains_has new k).0 has)))
+    (λ is. (contains_has new k).1 (adds.more k is)))
+  where
+    one : (k : ℕ) → Has old k ⊎ (active_in known names k ≡ true) → active_in known names k ≡ true
+    one k (inl has) = absurd (empty k has)
+    one k (inr is) = is
+
+is_same : (n k : ℕ) → (n == k) ≡ true → k ≡ n
+is_same n k is = search rules
+
+is_equal : (n k : ℕ) → k ≡ n → (n == k) ≡ true
+is_equal n k same = search rules
+
+pub std_alone : (old new : BitSet) (known : List (List ℕ)) → Adds old new (λ k. k ≡ 0) → AddsActive old new known None
+std_alone old new known adds = record {
+  size = adds.size;
+  only = λ k has. one k (adds.only k has);
+  kept = adds.kept;
+  more = λ k is. adds.more k (sym (is_same k 0 is));
+}
+  where
+    one : (k : ℕ) → Has old k ⊎ (k ≡ 0) → Has old k ⊎ (active_in known None k ≡ true)
+    one k (inl has) = inl has
+    one k (inr is) = inr (is_equal k 0 (sym is))
+
+or_false : (b : Bool) → (b || false) ≡ b
+or_false true = refl
+or_false false = refl
+
+pub one_number : (old new : BitSet) (known : List (List ℕ)) (name : List ℕ) (n : ℕ) → number_of known name ≡ Some n → Adds old new (λ k. k ≡ n)
+    → AddsActive old new known (Some (name ∷ []))
+one_number old new known name n number adds = record {
+  size = adds.size;
+  only = λ k has. one k (adds.only k has);
+  kept = adds.kept;
+  more = λ k is. adds.more k (is_same n k (let b = or_false (is_number (number_of known name) k) in rw number at (sym b ∙ is)));
+}
+  where
+    one : (k : ℕ) → Has old k ⊎ (k ≡ n) → Has old k ⊎ (active_in known (Some (name ∷ [])) k ≡ true)
+    one k (inl has) = inl has
+    one k (inr is) = inr (or_false (is_number (number_of known name) k) ∙ rw number (is_equal n k is))
+
+pub no_number : (set : BitSet) (known : List (List ℕ)) (name : List ℕ) → number_of known name ≡ None → AddsActive set set known (Some (name ∷ []))
+no_number set known name number = record {
+  size = refl;
+  only = λ k has. inl has;
+  kept = λ k has. has;
+  more = λ k is. absurd (let b = or_false (is_number (number_of known name) k) in let c = rw number at (sym b ∙ is) in cc);
+}
+
+pub nothing_added : (set : BitSet) (known : List (List ℕ)) → AddsActive set set known (Some [])
+nothing_added set known = record { size = refl; only = λ k has. inl has; kept = λ k has. has; more = λ k is. cc }
+
+either : (a b : Bool) → (a || b) ≡ true → (a ≡ true) ⊎ (b ≡ true)
+either true b is = inl refl
+either false b is = inr is
+
+or_left : (a b : Bool) → a ≡ true → (a || b) ≡ true
+or_left a b is = rw is refl
+
+or_right : (a b : Bool) → b ≡ true → (a || b) ≡ true
+or_right true b is = refl
+or_right false b is = is
+
+pub numbers_together : (old mid new : BitSet) (known first second : List (List ℕ)) → AddsActive old mid known (Some first)
+    → AddsActive mid new known (Some second) → AddsActive old new known (Some (first ++ second))
+numbers_together old mid new known first second adds more = record {
+  size = more.size ∙ adds.size;
+  only = λ k has. by k (more.only k has);
+  kept = λ k has. more.kept k (adds.kept k has);
+  more = λ k is. back k (either (active_in known (Some first) k) (active_in known (Some second) k) (sym (split k) ∙ is));
+}
+  where
+    split : (k : ℕ) → active_in known (Some (first ++ second)) k ≡ (active_in known (Some first) k || active_in known (Some second) k)
+    split k = list_any-append (λ name. is_number (number_of known name) k) first second
+
+    by_first : (k : ℕ) → Has old k ⊎ (active_in known (Some first) k ≡ true) → Has old k ⊎ (active_in known (Some (first ++ second)) k ≡ true)
+    by_first k (inl has) = inl has
+    by_first k (inr is) = inr (split k ∙ or_left (active_in known (Some first) k) (active_in known (Some second) k) is)
+
+    by : (k : ℕ) → Has mid k ⊎ (active_in known (Some second) k ≡ true) → Has old k ⊎ (active_in known (Some (first ++ second)) k ≡ true)
+    by k (inl has) = by_first k (adds.only k has)
+    by k (inr is) = inr (split k ∙ or_right (active_in known (Some first) k) (active_in known (Some second) k) is)
+
+    back : (k : ℕ) → (active_in known (Some first) k ≡ true) ⊎ (active_in known (Some second) k ≡ true) → Has new k
+    back k (inl is) = more.kept k (adds.more k is)
+    back k (inr is) = more.more k is
+
+pub one_name_more : (old mid new : BitSet) (known names : List (List ℕ)) (i : ℕ) (name : List ℕ) → AddsActive old mid known (Some (take i names))
+    → AddsActive mid new known (Some (name ∷ [])) → slice_get names i ≡ Some name → AddsActive old new known (Some (take (i + 1) names))
+one_name_more old mid new known names i name adds more at =
+    rw (take_step names i name at) (numbers_together old mid new known (take i names) (name ∷ []) adds more)
+
+pub more_rules : (old new : List ScanRule) (made : ScanRule) (one : Rule) → new ≡ old ++ made ∷ [] → rule_of made ≡ one
+    → map rule_of new ≡ map rule_of old ++ one ∷ []
+more_rules old new made one are is =
+    ap (λ l. map rule_of l) are ∙ map-append rule_of old (made ∷ []) ∙ ap (λ r. map rule_of old ++ r ∷ []) is

@@ -1,0 +1,175 @@
+-- What the whole section gives: its rules in their ranges, or its first fault.
+use Rattle.std.proofs.Common.{◌≡◌, ℕ, zero, suc, ◌+◌, ◌^◌, ◌<◌, ◌≤◌, List, [], ◌∷◌, length, take, map, refl, sym, ap, ◌∙◌, Option, Some, None, arith}
+use Rattle.std.specs.List.{slice_get}
+use Rattle.ck_base.specs.declared.fault.Kind.{Kind}
+use Rattle.ck_base.specs.declared.fault.Kind.TheVariants.{Limit}
+use Rattle.ck_base.specs.declared.fault.SpecFault.{SpecFault}
+use Rattle.ck_base.specs.declared.fault.SpecFault.TheVariants.{Bad, NoMemory}
+use Rattle.ck_base.specs.Numbered.{number_of, met}
+use Rattle.ck_base.proofs.NamesMet.{name_at_number}
+use Rattle.rex_model.specs.Language.{Re}
+use Rattle.rex_model.specs.Positions.{position_count}
+use Rattle.rex_model.specs.Rules.{Rule, Rules, trailing}
+use Rattle.rex_model.specs.Sets.{marked_rules}
+use Rattle.std.proofs.lemmas.List.{length-map}
+use Rattle.spec_text.specs.Declares.{Declared, DeclareAll, Grow, HasAt, HasFault, IsFirstFault, judged}
+use Rattle.spec_text.specs.Lines.{Line}
+use Rattle.spec_text.specs.Spans.{AreLinesOf}
+use Rattle.spec_text.specs.declared.section.SectionText.{SectionText}
+use Rattle.spec_text.proofs.Frame.{declared_grow}
+use Rattle.spec_text.proofs.Numbers.{section_grows, section_few}
+use Rattle.spec_text.proofs.Views.{as_many}
+use Rattle.front_spec.specs.Seen.{declared_by}
+use Rattle.front_spec.specs.declared.declaration.Declaration.{Declaration}
+use Rattle.spec_text.specs.FirstFault.{Accepts}
+use Rattle.spec_text.specs.Promise.{HasSection, IsSectionOf}
+use Rattle.spec_text.specs.Sections.{SectionLines}
+use Rattle.spec_text.specs.declared.section.Section.TheVariants.{Rex}
+use Rattle.spec_text.proofs.Lists.{take_all, get_fits}
+use Rattle.front_spec.specs.RexShapes.{SaidRule, Saying, state, rule}
+use Rattle.front_spec.specs.RexFaults.{all_states, context_positions, positions_of, all_positions, RexFault, too_many_states, too_many_positions, rex}
+use Rattle.front_spec.specs.RexRules.{add_rule, rules_in, tokens_in, number_in, rule_by, rules_by}
+use Rattle.front_spec.specs.Promise.{IsRexFault}
+use Rattle.front_spec.specs.Steps.{HasNone}
+
+pub rex_fault : (file : List ℕ) (these : SectionLines) (fault : SpecFault) → HasSection file Rex these → IsFirstFault rex these.inside fault
+    → IsRexFault file fault
+rex_fault file these (Bad line kind) has fault = record { lines = these; section = has; fault = fault }
+rex_fault file these NoMemory has fault = tt
+
+-- the scan rules by their parts
+pub made_rules : (states tokens : List (List ℕ)) (list : List Rule) (ds : List (Declared Saying)) → states ≡ all_states ds
+    → tokens ≡ met [] (tokens_in (rules_in ds)) → list ≡ map (rule_by states tokens) (rules_in ds)
+    → ◌≡◌ {A = Rules} (record { states = states; tokens = tokens; list = list }) (rules_by ds)
+made_rules states tokens list ds s t l = rw (l, s, t) refl
+
+-- their positions are those of the lines
+positions_are : (states tokens : List (List ℕ)) (ds : List (Declared Saying))
+    → position_count (marked_rules (map (rule_by states tokens) (rules_in ds))) ≡ all_positions ds
+positions_are states tokens [] = refl
+positions_are states tokens (d ∷ ds) = by d.said (positions_are states tokens ds)
+  where
+    behind : (context : Option Re) → position_count (trailing context) ≡ context_positions context
+    behind None = refl
+    behind (Some context) = refl
+
+    by : (said : Saying) → position_count (marked_rules (map (rule_by states tokens) (rules_in ds))) ≡ all_positions ds
+        → position_count (marked_rules (map (rule_by states tokens) (add_rule said (rules_in ds)))) ≡ positions_of said + all_positions ds
+    by (state name) same = omega (arith, same)
+    by (rule said) same = let context = behind said.context in omega (arith, same, context)
+
+last_at : {X : Type 0} (x : X) (xs : List X) → (y : X) × (slice_get (x ∷ xs) (length xs) ≡ Some y)
+last_at x [] = (x, refl)
+last_at x (next ∷ xs) = last_at next xs
+
+-- without a fault of kind limit the counts are within their limits
+pub within : (ds : List (Declared Saying)) → HasNone ds Limit → (all_positions ds ≤ 4096) × (length (all_states ds) ≤ 64)
+within [] none = (omega arith, omega arith)
+within (d ∷ ds) none = (at_most (all_positions (d ∷ ds)) 4096 positions, at_most (length (all_states (d ∷ ds))) 64 states)
+  where
+    at_most : (n most : ℕ) → (most < n → ⊥) → n ≤ most
+    at_most n most none = omega (arith, none)
+
+    all : take (length ds + 1) (d ∷ ds) ≡ d ∷ ds
+    all = take_all (d ∷ ds) (length ds + 1) (omega arith)
+
+    positions : 4096 < all_positions (d ∷ ds) → ⊥
+    positions more = let last = last_at d ds in none last.0.number (record {
+      place = length ds; declared = last.0; is = last.1; number = refl;
+      fault = too_many_positions (length ds) last.0.said (rw all more);
+    })
+
+    states : 64 < length (all_states (d ∷ ds)) → ⊥
+    states more = let last = last_at d ds in none last.0.number (record {
+      place = length ds; declared = last.0; is = last.1; number = refl;
+      fault = too_many_states (length ds) last.0.said (rw all more);
+    })
+
+-- the next state is one of the start states
+next_of : (states : List (List ℕ)) (name : Option (List ℕ)) (n : ℕ) → number_in states name ≡ Some n → n < length states
+next_of states None n is = cc
+next_of states (Some name) n is = get_fits states n name (name_at_number states name n is)
+
+next_in : (states tokens : List (List ℕ)) (rules : List SaidRule) (i n : ℕ) (made : Rule) → slice_get (map (rule_by states tokens) rules) i ≡ Some made
+    → made.next ≡ Some n → n < length states
+next_in states tokens [] i n made at is = cc
+next_in states tokens (said ∷ rules) zero n made at is =
+    let same : rule_by states tokens said ≡ made = cc in next_of states said.next n (ap (λ r. r.next) same ∙ is)
+next_in states tokens (said ∷ rules) (suc i) n made at is = next_in states tokens rules i n made at is
+
+few_rules : (ds : List (Declared Saying)) → length (rules_in ds) ≤ length ds
+few_rules [] = omega arith
+few_rules (d ∷ ds) = by d.said (few_rules ds)
+  where
+    by : (said : Saying) → length (rules_in ds) ≤ length ds → length (add_rule said (rules_in ds)) ≤ length (d ∷ ds)
+    by (state name) less = omega (arith, less)
+    by (rule said) less = omega (arith, less)
+
+long_map : {X Y : Type 0} (f : X → Y) (xs : List X) → length (map f xs) ≡ length xs
+long_map f [] = refl
+long_map f (x ∷ xs) = ap suc (long_map f xs)
+
+-- what the tables of the scanner want of the rules
+module _ (rules : Rules) (ds : List (Declared Saying)) (are : rules ≡ rules_by ds) where
+  pub positions_fit : HasNone ds Limit → position_count (marked_rules rules.list) ≤ 4096
+  positions_fit none = rw are (let same = positions_are (all_states ds) (met [] (tokens_in (rules_in ds))) ds in
+      let less = (within ds none).0 in omega (arith, same, less))
+
+  pub states_fit : HasNone ds Limit → length rules.states ≤ 64
+  states_fit none = rw are (within ds none).1
+
+  pub next_fits : (i n : ℕ) (made : Rule) → slice_get rules.list i ≡ Some made → made.next ≡ Some n → n < length rules.states
+  next_fits i n made at is = rw are (next_in (all_states ds) (met [] (tokens_in (rules_in ds))) (rules_in ds) i n made (rw are at at) is)
+
+  pub rules_fit : (size : ℕ) → length ds ≤ size → length rules.list ≤ size
+  rules_fit size few = rw are (let less = few_rules ds in
+      let long = long_map (rule_by (all_states ds) (met [] (tokens_in (rules_in ds)))) (rules_in ds) in omega (arith, less, long, few))
+
+-- the rules of a section without a fault, and their ranges
+pub record IsMade (file : List ℕ) (rules : Rules) : Type 0 where
+  pub these : SectionLines
+  pub section : HasSection file Rex these
+  pub declared : List (Declared Saying)
+  pub accepted : Accepts (judged rex these.inside) declared
+  pub are : rules ≡ rules_by declared
+  pub positions : position_count (marked_rules rules.list) ≤ 4096
+  pub next : (i n : ℕ) (made : Rule) → slice_get rules.list i ≡ Some made → made.next ≡ Some n → n < length rules.states
+  pub states : length rules.states ≤ 64
+  pub few : length rules.list < 4294967296
+
+-- the declarations are as many as the lines of the section, and their numbers grow
+module _ (file : List ℕ) (text : SectionText) (section : IsSectionOf file Rex text) (list : List Declaration) (size : length file ≤ 1048576)
+    (declared : (are : List Line) → AreLinesOf file text.lines.now are → DeclareAll rex are (map declared_by list))
+    (few : length list ≡ length text.lines.now) where
+  pub list_few : length list ≤ 1048576
+  list_few =
+      let many = as_many file text.lines.now section.these.inside section.lines in
+      let less = section_few file Rex section.these section.has in omega (arith, few, many, less, size)
+
+  pub list_grows : Grow (map declared_by list)
+  list_grows = declared_grow rex section.these.inside (map declared_by list) (declared section.these.inside section.lines)
+      (section_grows file Rex section.these section.has)
+
+  pub all_declared : (same : List Declaration) → same ≡ list → DeclareAll rex section.these.inside (map declared_by same)
+  all_declared same is = rw is (declared section.these.inside section.lines)
+
+  pub made : (first second third : List Declaration) → first ≡ list → second ≡ list → third ≡ list
+      → (states tokens : List (List ℕ)) (rules : List Rule) → states ≡ all_states (map declared_by first)
+      → ((lines : List Line) → DeclareAll rex lines (map declared_by first) → Accepts (judged rex lines) (map declared_by first))
+      → tokens ≡ met [] (tokens_in (rules_in (map declared_by second)))
+      → rules ≡ map (rule_by states tokens) (rules_in (map declared_by third))
+      → IsMade file (record { states = states; tokens = tokens; list = rules })
+  made first second third is is2 is3 states tokens rules states_are accepts tokens_are rules_are =
+      let ds : List (Declared Saying) = map declared_by list in
+      let accepted : Accepts (judged rex section.these.inside) ds =
+          rw is at (accepts section.these.inside (all_declared first is)) in
+      let are : ◌≡◌ {A = Rules} (record { states = states; tokens = tokens; list = rules }) (rules_by ds) =
+          made_rules states tokens rules ds (rw is at states_are) (rw is2 at tokens_are) (rw is3 at rules_are) in
+      let none : HasNone ds Limit = (λ line has. accepted.no_fault Limit line (omega arith) has) in
+      record {
+        these = section.these; section = section.has; declared = ds; accepted = accepted; are = are;
+        positions = positions_fit _ ds are none;
+        next = next_fits _ ds are;
+        states = states_fit _ ds are none;
+        few = (let less = rules_fit _ ds are 1048576 (let l = list_few in let long = length-map list declared_by in omega (arith, l, long)) in omega (arith, less));
+      }

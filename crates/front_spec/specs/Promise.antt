@@ -1,0 +1,33 @@
+-- What `read_rex` gives.
+use Rattle.std.specs.Prelude.{◌≡◌, ℕ, List}
+use Rattle.ck_base.specs.declared.fault.Kind.{Kind}
+use Rattle.ck_base.specs.declared.fault.SpecFault.{SpecFault}
+use Rattle.ck_base.specs.declared.fault.SpecFault.TheVariants.{Bad, NoMemory}
+use Rattle.rex_model.specs.RuleMeaning.{rules_of}
+use Rattle.rex_model.specs.declared.rules.ScanRules.{ScanRules}
+use Rattle.spec_text.specs.Declares.{Declared, judged}
+use Rattle.spec_text.specs.FirstFault.{FirstFault, Accepts}
+use Rattle.spec_text.specs.Promise.{HasSection}
+use Rattle.spec_text.specs.Sections.{SectionLines}
+use Rattle.spec_text.specs.declared.section.Section.TheVariants.{Rex}
+use Rattle.front_spec.specs.RexShapes.{Saying}
+use Rattle.front_spec.specs.RexFaults.{rex}
+use Rattle.front_spec.specs.RexRules.{rules_by}
+
+-- the section REX of the file declares these scan rules, and has no fault
+pub record DeclaresRules (file : List ℕ) (rules : ScanRules) : Type 0 where
+  pub lines : SectionLines
+  pub section : HasSection file Rex lines
+  pub declared : List (Declared Saying)
+  pub accepted : Accepts (judged rex lines.inside) declared
+  pub are : rules_of rules ≡ rules_by declared
+
+-- the first fault of the section REX of the file
+pub record FirstRexFault (file : List ℕ) (line : ℕ) (kind : Kind) : Type 0 where
+  pub lines : SectionLines
+  pub section : HasSection file Rex lines
+  pub fault : FirstFault (judged rex lines.inside) line kind
+
+abbrev pub IsRexFault : List ℕ → SpecFault → Type 0
+IsRexFault file (Bad line kind) = FirstRexFault file line kind
+IsRexFault file NoMemory = Unit {0}

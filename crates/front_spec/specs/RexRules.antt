@@ -1,0 +1,58 @@
+-- The scan rules that the lines of REX declare.
+use Rattle.std.specs.Prelude.{ℕ, ◌==◌, Bool, false, List, [], ◌∷◌, map, Option, Some, None}
+use Rattle.std.specs.List.{list_any}
+use Rattle.ck_base.specs.Numbered.{number_of, met}
+use Rattle.rex_model.specs.Rules.{Rule, Rules}
+use Rattle.spec_text.specs.Declares.{Declared}
+use Rattle.front_spec.specs.RexShapes.{SaidRule, Saying, state, rule}
+use Rattle.front_spec.specs.RexFaults.{all_states}
+
+-- the rules in the order of their lines
+abbrev pub add_rule : Saying → List SaidRule → List SaidRule
+add_rule (state name) rules = rules
+add_rule (rule said) rules = said ∷ rules
+
+abbrev pub rules_in : List (Declared Saying) → List SaidRule
+rules_in [] = []
+rules_in (d ∷ ds) = add_rule d.said (rules_in ds)
+
+-- the names of their tokens
+abbrev pub add_token : Option (List ℕ) → List (List ℕ) → List (List ℕ)
+add_token None names = names
+add_token (Some name) names = name ∷ names
+
+abbrev pub tokens_in : List SaidRule → List (List ℕ)
+tokens_in [] = []
+tokens_in (said ∷ rules) = add_token said.token (tokens_in rules)
+
+-- the number of a name that may be missing
+abbrev pub number_in : List (List ℕ) → Option (List ℕ) → Option ℕ
+number_in names None = None
+number_in names (Some name) = number_of names name
+
+abbrev pub is_number : Option ℕ → ℕ → Bool
+is_number None k = false
+is_number (Some n) k = n == k
+
+-- the states where a rule is active: those that it names, and STD alone where it names none
+abbrev pub active_in : List (List ℕ) → Option (List (List ℕ)) → ℕ → Bool
+active_in states None k = k == 0
+active_in states (Some names) k = list_any (λ name. is_number (number_of states name) k) names
+
+-- a rule, its states and its token by their numbers
+abbrev pub rule_by : List (List ℕ) → List (List ℕ) → SaidRule → Rule
+rule_by states tokens said = record {
+  active = active_in states said.states;
+  body = said.body;
+  context = said.context;
+  token = number_in tokens said.token;
+  next = number_in states said.next;
+}
+
+-- the rules that are declared; states and tokens are numbered in the order in which they are first met
+abbrev pub rules_by : List (Declared Saying) → Rules
+rules_by ds = record {
+  states = all_states ds;
+  tokens = met [] (tokens_in (rules_in ds));
+  list = map (rule_by (all_states ds) (met [] (tokens_in (rules_in ds)))) (rules_in ds);
+}

@@ -1,0 +1,28 @@
+ghost use Rattle.std.specs.Prelude.{◌≡◌, ℕ, List};
+ghost use Rattle.spec_text.specs.Declares.{LinesGrow, judged};
+ghost use Rattle.spec_text.specs.FirstFault.{ExactlyOne};
+ghost use Rattle.spec_text.specs.Lexemes.{Lexeme};
+ghost use Rattle.spec_text.specs.Lines.{Line};
+ghost use Rattle.front_spec.specs.Regexes.{EndsRegex, IsRegex, Written};
+ghost use Rattle.front_spec.specs.RexShapes.{RexShape, Saying};
+ghost use Rattle.front_spec.specs.RexFaults.{rex};
+
+/// Law: tokens begin with one expression at most, and it ends in one place, wherever none can go on.
+pub fn at_most_one_regex()
+    ensures { (tokens rest more : List Lexeme) (v w : Written) → EndsRegex rest → EndsRegex more
+        → IsRegex tokens v rest → IsRegex tokens w more → (v ≡ w) × (rest ≡ more) }
+{
+}
+
+/// Law: a line of REX declares one thing at most.
+pub fn at_most_one_declaration()
+    ensures { (tokens : List Lexeme) (said other : Saying) → RexShape tokens said
+        → RexShape tokens other → said ≡ other }
+{
+}
+
+/// Law: exactly one of the first fault of REX and its declarations is there.
+pub fn fault_or_declarations()
+    ensures { (lines : List Line) → LinesGrow lines → ExactlyOne (judged rex lines) }
+{
+}
