@@ -1,8 +1,9 @@
 -- What a run is to answer, by what each of its steps found.
-use Rattle.std.proofs.Common.{◌≡◌, ℕ, ◌+◌, ◌<◌, ◌≤◌, List, [], ◌∷◌, ◌++◌, length, Option, Result, Vec, Ok, Err, None, Some, IfSome, refl, sym, arith}
+use Rattle.std.proofs.Common.{◌≡◌, ◌≢◌, ℕ, ◌+◌, ◌<◌, ◌≤◌, List, [], ◌∷◌, ◌++◌, length, Option, Result, Vec, Ok, Err, None, Some, IfSome, refl, sym, subst, arith}
 use Rattle.std.specs.Prelude.{replicate, IsErrAnd}
 use Rattle.std.specs.Global.{Global}
 use Rattle.std.proofs.lemmas.List.{length-replicate}
+use Rattle.std.proofs.lemmas.Option.{IfSome_then}
 use Rattle.ck_base.specs.declared.fault.SpecFault.{SpecFault}
 use Rattle.ck_base.specs.declared.fault.SpecFault.TheVariants as fault
 use Rattle.ck_base.specs.declared.refusal.Refusal.{Refusal}
@@ -15,7 +16,7 @@ use Rattle.ck_tool.specs.Outcome.{Outcome, refused, Makes, AnswerOf, makes}
 use Rattle.ck_tool.specs.Wanted.{Settles, by_words, by_spec, by_source, no_files, one_more, Wanted, Reads, names_in}
 use Rattle.ck_tool.specs.Words.{AreOfStage, AreRight, of_stage}
 use Rattle.ck_tool.specs.within.RulesOfLines.{IsFaultOf}
-use Rattle.ck_tool.specs.within.Stops.{IsStopOfRead, answer_in, stop_of}
+use Rattle.ck_tool.specs.within.Stops.{IsStopOfRead, Meets, answer_in, stop_of}
 use Rattle.ck_tool.specs.declared.stage.Stage.{Stage}
 use Rattle.ck_tool.specs.declared.stop.Stop.{Stop}
 use Rattle.ck_tool.specs.declared.stop.Stop.TheVariants.{Refused, ReadFault, NoMemory}
@@ -95,68 +96,52 @@ module _ (contents : List ℕ → Option (List ℕ)) (words : List (List ℕ)) (
       settles = by_source stage spec_name source_name spec source rules o are accepts answers;
     }
 
--- what a stop says, where these answers are wanted and `failed` says that a read failed
-abbrev pub IsStop : (Outcome → Type 0) → Type 0 → Stop → Type 0
-IsStop wants failed (Refused r) = wants (refused r)
-IsStop wants failed ReadFault = failed
-IsStop wants failed NoMemory = Unit {0}
-
--- the answer of a stop that `?` passes on is wanted
-pub answer_of_stop : (wants : Outcome → Type 0) (failed : Type 0) (found : Result (Vec ℕ Global) Stop) (stop : Stop)
-    → IsErrAnd found (λ other. other ≡ stop) → IsStop wants failed stop → IfSome (answer_in found) wants
-answer_of_stop wants failed (Ok bytes) stop is known = absurd is
-answer_of_stop wants failed (Err (Refused r)) stop is known = rw (sym is) at known
-answer_of_stop wants failed (Err ReadFault) stop is known = tt
-answer_of_stop wants failed (Err NoMemory) stop is known = tt
-
--- and where it is for a read, a read failed
-pub fault_of_stop : (wants : Outcome → Type 0) (failed : Type 0) (found : Result (Vec ℕ Global) Stop) (stop : Stop)
-    → IsErrAnd found (λ other. other ≡ stop) → IsStop wants failed stop → found ≡ Err ReadFault → failed
-fault_of_stop wants failed (Ok bytes) stop is known fault = absurd is
-fault_of_stop wants failed (Err other) stop is known fault =
-    let same : stop ≡ ReadFault = cc in
-    rw same at known
+-- what a stop that `?` passes on meets
+pub stop_meets : (wants : Outcome → Type 0) (failed : Type 0) (found : Result (Vec ℕ Global) Stop) (stop : Stop)
+    → IsErrAnd found (λ other. other ≡ stop) → Meets wants failed (Err stop) → Meets wants failed found
+stop_meets wants failed (Ok bytes) stop is meets = absurd is
+stop_meets wants failed (Err other) stop is meets = subst (λ same. Meets wants failed (Err same)) (sym is) meets
 
 -- a file wasn't read
 stop_of_read : (wants : Outcome → Type 0) (failed : Type 0) (told : Option (List ℕ)) (limit : ℕ) (too_long : Refusal) (rose : Type 0) (stop : Stop)
     → ((bytes : List ℕ) → IsTold told bytes → limit < length bytes → wants (refused too_long)) → (rose → failed)
-    → IsStopOfRead too_long (IsLonger told limit) rose stop → IsStop wants failed stop
+    → IsStopOfRead too_long (IsLonger told limit) rose stop → Meets wants failed (Err stop)
 stop_of_read wants failed told limit too_long rose (Refused r) longer fails stop =
     let (bytes, is, more) = longer_bytes told limit stop.1 in
-    rw stop.0 (longer bytes is more)
-stop_of_read wants failed told limit too_long rose ReadFault longer fails stop = fails stop
-stop_of_read wants failed told limit too_long rose NoMemory longer fails stop = tt
+    (rw stop.0 (longer bytes is more), λ is. cc)
+stop_of_read wants failed told limit too_long rose ReadFault longer fails stop = (tt, λ is. fails stop)
+stop_of_read wants failed told limit too_long rose NoMemory longer fails stop = (tt, λ is. cc)
 
 module _ (contents : List ℕ → Option (List ℕ)) (words : List (List ℕ)) (stage : Stage) (spec_name source_name : List ℕ)
     (are : AreOfStage words stage spec_name source_name) where
   -- the specification wasn't read
   pub stop_at_spec : (failed : Type 0) (limit : ℕ) (rose : Type 0) (stop : Stop) → limit ≡ 1048576 → (rose → failed)
-      → IsStopOfRead refusal.SpecTooLong (IsLonger (contents spec_name) limit) rose stop → IsStop (Wanted contents words) failed stop
+      → IsStopOfRead refusal.SpecTooLong (IsLonger (contents spec_name) limit) rose stop → Meets (Wanted contents words) failed (Err stop)
   stop_at_spec failed limit rose stop at fails is = stop_of_read (Wanted contents words) failed (contents spec_name) limit refusal.SpecTooLong rose stop
       (λ bytes told longer. wanted_of_spec contents words stage spec_name source_name are bytes refusal.SpecTooLong told (RefusesSpec.too_long (omega arith)))
       fails is
 
   -- the specification has a fault
-  pub stop_at_fault : (spec : List ℕ) (found : SpecFault) → IsTold (contents spec_name) spec → length spec ≤ 1048576 → IsFaultOf spec found
-      → IsStop (Wanted contents words) ⊥ (stop_of found)
-  stop_at_fault spec (fault.Bad line kind) told fits is =
-      wanted_of_spec contents words stage spec_name source_name are spec (refusal.BadSpec line kind) told (faulty fits line kind is)
-  stop_at_fault spec fault.NoMemory told fits is = tt
+  pub stop_at_fault : (failed : Type 0) (spec : List ℕ) (found : SpecFault) → IsTold (contents spec_name) spec → length spec ≤ 1048576 → IsFaultOf spec found
+      → Meets (Wanted contents words) failed (Err (stop_of found))
+  stop_at_fault failed spec (fault.Bad line kind) told fits is =
+      (wanted_of_spec contents words stage spec_name source_name are spec (refusal.BadSpec line kind) told (faulty fits line kind is), λ same. cc)
+  stop_at_fault failed spec fault.NoMemory told fits is = (tt, λ same. cc)
 
   module _ (spec : List ℕ) (rules : Rules) (told : IsTold (contents spec_name) spec) (accepts : Accepts spec rules) where
     -- the source wasn't read
     pub stop_at_source : (failed : Type 0) (limit : ℕ) (rose : Type 0) (stop : Stop) → limit ≡ 4194304 → (rose → failed)
-        → IsStopOfRead refusal.SourceTooLong (IsLonger (contents source_name) limit) rose stop → IsStop (Wanted contents words) failed stop
+        → IsStopOfRead refusal.SourceTooLong (IsLonger (contents source_name) limit) rose stop → Meets (Wanted contents words) failed (Err stop)
     stop_at_source failed limit rose stop at fails is = stop_of_read (Wanted contents words) failed (contents source_name) limit refusal.SourceTooLong rose stop
         (λ bytes is_source longer. wanted_of_source contents words stage spec_name source_name are spec rules told accepts bytes
         (refused refusal.SourceTooLong) is_source (AnswerOf.too_long (omega arith))) fails is
 
     -- the stage has its answer
-    pub answer_of_stage : (source : List ℕ) (found : Result (Vec ℕ Global) Stop) → IsTold (contents source_name) source → length source ≤ 4194304
-        → IfSome (answer_in found) (Makes stage rules source) → IfSome (answer_in found) (Wanted contents words)
-    answer_of_stage source found is_source fits = each (answer_in found)
-      where
-        each : (found : Option Outcome) → IfSome found (Makes stage rules source) → IfSome found (Wanted contents words)
-        each None made = tt
-        each (Some answer) made =
-            wanted_of_source contents words stage spec_name source_name are spec rules told accepts source answer is_source (makes answer fits made)
+    pub stage_meets : (failed : Type 0) (source : List ℕ) (found : Result (Vec ℕ Global) Stop) → IsTold (contents source_name) source
+        → length source ≤ 4194304 → IfSome (answer_in found) (Makes stage rules source) → found ≢ Err ReadFault
+        → Meets (Wanted contents words) failed found
+    stage_meets failed source found is_source fits made no_fault = (
+      IfSome_then (answer_in found) made (λ answer its.
+          wanted_of_source contents words stage spec_name source_name are spec rules told accepts source answer is_source (makes answer fits its)),
+      λ fault. absurd (no_fault fault),
+    )

@@ -1,5 +1,5 @@
 -- How a run ends, by the line that it told.
-use Rattle.std.proofs.Common.{◌≡◌, ℕ, ◌⊎◌, List, Vec, Option, Result, Some, Err, IfSome, refl, subst, inl, inr}
+use Rattle.std.proofs.Common.{◌≡◌, ℕ, ◌⊎◌, List, Vec, Option, Result, Some, Err, refl, subst, inl, inr}
 use Rattle.std.specs.Global.{Global}
 use Rattle.ck_base.specs.Lines.{line_of, status_of}
 use Rattle.ck_base.specs.declared.refusal.Refusal.{Refusal}
@@ -7,14 +7,14 @@ use Rattle.ck_base.specs.declared.refusal.Refusal.TheVariants as refusal
 use Rattle.ck_base.specs.declared.status.Status.{Status}
 use Rattle.ck_base.specs.declared.status.Status.TheVariants as status
 use Rattle.ck_tool.specs.Outcome.{Outcome, output, refused, Makes, AnswerOf}
-use Rattle.ck_tool.specs.Ran.{Sunk, Kept, Tells, told, cut, Ran, done, refusing, memory, reading, writing, UsageExactly, WritesOnlyDone, Answers, WantedMemory, NoneFailed}
+use Rattle.ck_tool.specs.Ran.{Sunk, Kept, Tells, told, cut, Ran, done, refusing, memory, reading, writing, UsageExactly, WritesOnlyDone, Answers, WantedMemory, NoneRose}
 use Rattle.ck_tool.specs.Wanted.{Settles, by_words, by_spec, by_source, Wanted, AreTold}
 use Rattle.ck_tool.specs.Words.{AreRight}
 use Rattle.ck_tool.specs.declared.stage.Stage.{Stage}
 use Rattle.ck_tool.specs.declared.stage.Stage.TheVariants as stages
 use Rattle.ck_tool.specs.declared.stop.Stop.{Stop}
 use Rattle.ck_tool.specs.declared.stop.Stop.TheVariants.{Refused, ReadFault, NoMemory}
-use Rattle.ck_tool.specs.within.Stops.{Explains, answer_in}
+use Rattle.ck_tool.specs.within.Stops.{Explains, Meets, answer_in}
 use Rattle.ck_tool.proofs.AnswerOfRun.{wanted_of_words}
 use Rattle.ck_tool.proofs.OneOutcome.{one_outcome}
 use Rattle.rex_model.specs.Rules.{Rules}
@@ -39,10 +39,10 @@ Ran-map words wants wants' failed failed' out err _ f g (writing ends bytes want
 
 -- the run ends by what was found
 pub by_found : (words : List (List ℕ)) (wants : Outcome → Type 0) (failed : Type 0) (out err : Sunk) (ends : Status) (found : Result (Vec ℕ Global) Stop)
-    → IfSome (answer_in found) wants → (found ≡ Err ReadFault → failed)
-    → Ran words (λ answer. answer_in found ≡ Some answer) (found ≡ Err ReadFault) out err ends → Ran words wants failed out err ends
-by_found words wants failed out err ends found wanted fails ran =
-    Ran-map words _ wants _ failed out err ends (λ answer is. rw is at wanted) fails ran
+    → Meets wants failed found → Ran words (λ answer. answer_in found ≡ Some answer) (found ≡ Err ReadFault) out err ends
+    → Ran words wants failed out err ends
+by_found words wants failed out err ends found meets ran =
+    Ran-map words _ wants _ failed out err ends (λ answer is. rw is at meets.0) meets.1 ran
 
 -- the words are wrong
 pub by_wrong_words : (contents : List ℕ → Option (List ℕ)) (words : List (List ℕ)) (failed : Type 0) (out err : Sunk) (ends : Status)
@@ -109,7 +109,7 @@ writes_only_done words wants failed out err _ (writing _ bytes wanted part (cut 
 
 -- where files are told and no device failed, the run gives the wanted answer, or memory was wanting
 pub exactly_wanted : (contents : List ℕ → Option (List ℕ)) (words : List (List ℕ)) (failed : Type 0) (out err : Sunk) (ends : Status)
-    → Ran words (Wanted contents words) failed out err ends → AreTold contents words → NoneFailed failed out err
+    → Ran words (Wanted contents words) failed out err ends → AreTold contents words → NoneRose failed out err
     → (answer : Outcome) → Wanted contents words answer → Answers answer out err ends ⊎ WantedMemory words out err ends
 exactly_wanted contents words failed out err _ (done bytes wanted gained kept) are_told none answer other =
     let same = one_outcome contents words (output bytes) answer are_told wanted other in

@@ -1,29 +1,31 @@
 -- The answer of a run, the names that it reads and how it ends, tried on cases that are worked by hand.
-use Rattle.std.proofs.Common.{◌≡◌, ◌⊎◌, inl, inr, ℕ, List, [], ◌∷◌, ◌++◌, length, Option, Some, codes, refl, arith, take, length-take, ap}
+use Rattle.std.proofs.Common.{◌≡◌, ◌⊎◌, inl, inr, ℕ, List, [], ◌∷◌, ◌++◌, length, Option, None, Some, codes, refl, arith, take, length-take, ap, sym, subst}
 use Rattle.std.specs.Fmt.{digits}
+use Rattle.ck_base.specs.Found.{HasNo}
 use Rattle.ck_base.specs.declared.fault.Kind.TheVariants.{Section}
 use Rattle.ck_base.specs.Lines.{status_of}
 use Rattle.ck_base.specs.declared.refusal.Refusal.{Refusal}
 use Rattle.ck_base.specs.declared.refusal.Refusal.TheVariants as refusal
 use Rattle.ck_base.specs.declared.status.Status.{Status}
 use Rattle.ck_base.specs.declared.status.Status.TheVariants as status
+use Rattle.ck_io.specs.Contents.{IsTold}
+use Rattle.rex_model.specs.Rules.{Rules}
 use Rattle.rex_model.specs.Run.{Tokens}
 use Rattle.ck_tool.specs.Accepts.{RefusesSpec, too_long, faulty, Accepts}
 use Rattle.ck_tool.specs.Declares.{declared_rules}
-use Rattle.ck_tool.specs.Outcome.{Outcome, output, refused, bad_token, printed, makes}
-use Rattle.ck_tool.specs.Ran.{Sunk, Kept, FaultsRose, Gained, GainedPart, Answers, UsageExactly, told, cut, Ran, done, refusing, memory, reading, writing, ended}
-use Rattle.ck_tool.specs.Wanted.{Wanted}
+use Rattle.ck_tool.specs.Outcome.{Outcome, output, refused, AnswerOf, bad_token, printed, makes}
+use Rattle.ck_tool.specs.Ran.{Sunk, Kept, FaultsRose, WritesOnlyDone, Gained, GainedPart, Answers, UsageExactly, Tells, told, cut, Ran, done, refusing, memory, reading, writing, ended}
+use Rattle.ck_tool.specs.Wanted.{Settles, by_spec, names_in, Hold, no_files, one_more, Wanted, Reads}
 use Rattle.ck_tool.specs.Words.{AreOfStage, AreRight, of_stage}
 use Rattle.ck_tool.specs.declared.stage.Stage.TheVariants.{Tokens as of_tokens}
 use Rattle.ck_tool.proofs.AnswerOfRun.{wanted_of_words, wanted_of_spec, wanted_of_source}
 use Rattle.ck_tool.proofs.DeclarationExamples.{no_rule, declares_nothing, empty_spec}
 
 -- the words `tokens s x`
-pub words : List (List ℕ)
+abbrev pub words : List (List ℕ)
 words = codes "tokens" ∷ codes "s" ∷ codes "x" ∷ []
 
 are_tokens : AreOfStage words of_tokens (codes "s") (codes "x")
-unfolding words
 are_tokens = record { words_are = refl; is_spec = λ e. cc; is_source = λ e. cc }
 
 -- two words are wrong, and Usage is the answer
@@ -54,6 +56,28 @@ module _ (contents : List ℕ → Option (List ℕ)) where
   wants_bad_spec : contents (codes "s") ≡ Some [] → Wanted contents words (refused (refusal.BadSpec 1 Section))
   wants_bad_spec spec = wanted_of_spec contents words of_tokens _ _ are_tokens [] _ (rw spec refl) (faulty (omega arith) 1 Section empty_spec)
 
+  -- and the source isn't read then
+  refused_reads_no_source : contents (codes "s") ≡ Some [] → Reads contents words (codes "x") → ⊥
+  refused_reads_no_source spec reads = none_before reads.before reads.others reads.files reads.named reads.hold reads.unsettled
+    where
+      same_bytes : (told : Option (List ℕ)) (bytes : List ℕ) → told ≡ Some [] → IsTold told bytes → bytes ≡ []
+      same_bytes None bytes at is = cc
+      same_bytes (Some all) bytes at is = cc
+
+      none_before : (before others files : List (List ℕ)) → names_in words ≡ before ++ codes "x" ∷ others → Hold contents before files
+          → ((first rest : List (List ℕ)) → files ≡ first ++ rest → HasNo (Settles words first)) → ⊥
+      none_before [] others files named hold unsettled =
+          let other : codes "x" ≡ codes "s" = cc in
+          let byte : ◌≡◌ {A = ℕ} 120 115 = cc in
+          omega arith
+      none_before (name ∷ []) others _ named (one_more _ bytes _ _ is (no_files)) unsettled =
+          let first : name ≡ codes "s" = cc in
+          let empty : bytes ≡ [] = same_bytes (contents name) bytes (subst (λ n. contents n ≡ Some []) (sym first) spec) is in
+          unsettled (bytes ∷ []) [] refl (refused (refusal.BadSpec 1 Section)) (by_spec of_tokens (codes "s") (codes "x") bytes _ are_tokens
+          (rw empty (faulty (omega arith) 1 Section empty_spec)))
+      none_before (name ∷ other ∷ []) others files named hold unsettled = cc
+      none_before (name ∷ other ∷ next ∷ more) others files named hold unsettled = cc
+
 -- a specification with the very last byte that it may have isn't too long
 at_the_limit : (spec : List ℕ) → length spec ≡ 1048576 → RefusesSpec spec refusal.SpecTooLong → ⊥
 at_the_limit spec size (too_long longer) = omega arith
@@ -61,6 +85,11 @@ at_the_limit spec size (too_long longer) = omega arith
 -- one with a byte more is, whatever stands in it
 past_the_limit : (spec : List ℕ) → length spec ≡ 1048577 → RefusesSpec spec refusal.SpecTooLong
 past_the_limit spec size = too_long (omega arith)
+
+-- nor is a source
+source_at_the_limit : (rules : Rules) (source : List ℕ) → length source ≡ 4194304 → AnswerOf of_tokens rules source (refused refusal.SourceTooLong) → ⊥
+source_at_the_limit rules source size (AnswerOf.too_long longer) = omega arith
+source_at_the_limit rules source size (makes _ fits made) = elim made [ ]
 
 -- a sink that took all bytes didn't take a part of them, whatever its count says
 whole_is_no_part : (count : ℕ) → GainedPart (record { old = Some []; new = Some (codes "ab"); before = 0; now = count }) (codes "ab") → ⊥
@@ -74,6 +103,14 @@ told_with_end count took =
     let same : codes "ab" ≡ ended (codes "ab") = cc in
     omega (arith, ap length same)
 
+-- a line that was cut ends in status 8
+cut_is_device : (ends : Status) → Tells (codes "ab") status.Usage (record { old = Some []; new = Some (codes "a"); before = 0; now = 1 }) ends
+    → ends ≡ status.Device
+cut_is_device _ (told took) =
+    let same : codes "a" ≡ ended (codes "ab") = cc in
+    absurd (omega (arith, ap length same))
+cut_is_device _ (cut part) = refl
+
 -- a fault from before the run is none of the run
 old_fault : (bytes : Option (List ℕ)) → FaultsRose (record { old = bytes; new = bytes; before = 3; now = 3 }) → ⊥
 old_fault bytes rose = omega arith
@@ -81,6 +118,10 @@ old_fault bytes rose = omega arith
 -- bytes that were given with a line beside them aren't the answer
 bytes_and_line : (out : Sunk) → Answers (output []) out (record { old = Some []; new = Some (codes "a"); before = 0; now = 0 }) status.Done → ⊥
 bytes_and_line out (is, gained, kept) = cc
+
+-- a refusal follows no byte of output
+refusal_after_output : WritesOnlyDone (record { old = Some []; new = Some (codes "a"); before = 0; now = 0 }) status.Spec → ⊥
+refusal_after_output only = elim (only (λ is. cc)) [ inl kept ↦ cc | inr failed ↦ omega (arith, failed.1) ]
 
 -- wrong words never end in want of memory
 wrong_words_want_none : (words : List (List ℕ)) (err : Sunk) → UsageExactly words err status.Memory → (AreRight words → ⊥) → ⊥

@@ -33,7 +33,7 @@ Gained sunk bytes = Appends sunk.old sunk.new bytes
 abbrev pub FaultsRose : Sunk → Type 0
 FaultsRose sunk = Rose sunk.before sunk.now
 
--- the sink failed, having taken the first of these bytes and not all
+-- the sink took the first of these bytes and not all, and its count rose
 abbrev pub GainedPart : Sunk → List ℕ → Type 0
 GainedPart sunk bytes =
     (written : ℕ) × (written < length bytes) × Gained sunk (take written bytes) × FaultsRose sunk
@@ -42,13 +42,14 @@ GainedPart sunk bytes =
 abbrev pub ended : List ℕ → List ℕ
 ended line = line ++ 10 ∷ []
 
--- the sink took the line, and the run ends in the status meant for that, or it failed within the line
+-- the sink took the line, and the run ends in the status meant for that; or it took a part, and the
+-- run ends in status 8
 pub data Tells (line : List ℕ) (meant : Status) (sunk : Sunk) : Status → Type 0 where
   told : Gained sunk (ended line) → Tells line meant sunk meant
   cut : GainedPart sunk (ended line) → Tells line meant sunk Device
 
 -- how a run ends. `wants` are the answers that the words and files want, and `read_failed` says that
--- a file that the run reads failed
+-- the count of a file that the run reads rose
 pub data Ran (words : List (List ℕ)) (wants : Outcome → Type 0) (read_failed : Type 0) (out err : Sunk)
     : Status → Type 0 where
   -- the output was written whole
@@ -60,19 +61,19 @@ pub data Ran (words : List (List ℕ)) (wants : Outcome → Type 0) (read_failed
   -- memory was wanting
   memory : (ends : Status) → AreRight words → Kept out → Tells (codes "out of memory") Memory err ends
       → Ran words wants read_failed out err ends
-  -- a file failed
+  -- the count of a file rose
   reading : (ends : Status) → read_failed → Kept out
       → Tells (codes "device: read fault") Device err ends → Ran words wants read_failed out err ends
-  -- `out` failed
+  -- the count of `out` rose
   writing : (ends : Status) (bytes : List ℕ) → wants (output bytes) → GainedPart out bytes
       → Tells (codes "device: write fault") Device err ends → Ran words wants read_failed out err ends
 
--- status 1 comes exactly where the words aren't right, unless `err` failed
+-- status 1 comes exactly where the words aren't right, unless the count of `err` rose
 pub record UsageExactly (words : List (List ℕ)) (err : Sunk) (ends : Status) : Type 0 where
   pub only : ends ≡ Usage → AreRight words → ⊥
   pub always : (AreRight words → ⊥) → (ends ≡ Usage) ⊎ ((ends ≡ Device) × FaultsRose err)
 
--- a run whose status isn't 0 leaves `out` as it was, unless that failed
+-- a run whose status isn't 0 leaves `out` as it was, unless the count of `out` rose
 abbrev pub WritesOnlyDone : Sunk → Status → Type 0
 WritesOnlyDone out ends = ends ≢ Done → Kept out ⊎ ((ends ≡ Device) × FaultsRose out)
 
@@ -88,8 +89,8 @@ pub record WantedMemory (words : List (List ℕ)) (out err : Sunk) (ends : Statu
   pub kept : Kept out
   pub told : Gained err (ended (codes "out of memory"))
 
--- the counts of faults didn't rise in the run: of the files that it reads, of `out` and of `err`
-pub record NoneFailed (read_failed : Type 0) (out err : Sunk) : Type 0 where
+-- no count of faults rose in the run: of the files that it reads, of `out` and of `err`
+pub record NoneRose (read_failed : Type 0) (out err : Sunk) : Type 0 where
   pub files : read_failed → ⊥
   pub output : FaultsRose out → ⊥
   pub lines : FaultsRose err → ⊥

@@ -3,11 +3,11 @@ ghost use Rattle.ck_io.specs.Contents.{IsLonger, IsTold, SameContents};
 ghost use Rattle.ck_io.specs.Faults.{Rose, NoneFell};
 ghost use Rattle.rex_model.specs.RuleMeaning.{rules_of};
 ghost use Rattle.ck_tool.specs.Outcome.{Outcome, Makes};
-ghost use Rattle.ck_tool.specs.Ran.{Answers, NoneFailed, Ran, UsageExactly, WantedMemory, WritesOnlyDone, sunk};
+ghost use Rattle.ck_tool.specs.Ran.{Answers, NoneRose, Ran, UsageExactly, WantedMemory, WritesOnlyDone, sunk};
 ghost use Rattle.ck_tool.specs.Wanted.{AreTold, ReadFailed, Wanted};
 ghost use Rattle.ck_tool.specs.Words.{AreRight};
 ghost use Rattle.ck_tool.specs.within.Places.{NameTokens};
-ghost use Rattle.ck_tool.specs.within.Stops.{Explains, IsAsked, IsStopOfRead, answer_in};
+ghost use Rattle.ck_tool.specs.within.Stops.{Explains, IsAsked, IsStopOfRead, Meets, answer_in};
 
 use crate::reader::read_rules;
 use crate::stage::Stage;
@@ -51,7 +51,7 @@ pub fn cocktail<F: Files, O: Sink, E: Sink>(
         let read_failed = ReadFailed F.contents F.faults texts files.old files.new in
         let to_out = sunk O.written O.faults out.old out.new in
         let to_err = sunk E.written E.faults err.old err.new in
-        AreTold (F.contents files.old) texts → NoneFailed read_failed to_out to_err
+        AreTold (F.contents files.old) texts → NoneRose read_failed to_out to_err
         → (answer : Outcome) → Wanted (F.contents files.old) texts answer
         → Answers answer to_out to_err result ⊎ WantedMemory texts to_out to_err result }
     ensures usage { let to_err = sunk E.written E.faults err.old err.new in
@@ -70,10 +70,8 @@ pub fn cocktail<F: Files, O: Sink, E: Sink>(
 /// The output that the command asks for, or why there is none.
 fn answer_of<F: Files>(alloc: Global, command: Command, files: &mut F) -> Result<Vec<u8>, Stop>
     ensures answer { (words : List (List ℕ)) → IsAsked words command.entry
-        → IfSome (answer_in result) (Wanted (F.contents files.old) words) }
-    ensures fault { (words : List (List ℕ)) → IsAsked words command.entry
-        → result ≡ Err Stop.ReadFault
-        → ReadFailed F.contents F.faults words files.old files.new }
+        → Meets (Wanted (F.contents files.old) words)
+        (ReadFailed F.contents F.faults words files.old files.new) result }
     ensures same { SameContents (F.contents files.old) (F.contents files.new) }
     ensures later { NoneFell (F.faults files.old) (F.faults files.new) }
 {

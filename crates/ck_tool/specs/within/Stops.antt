@@ -1,5 +1,5 @@
 -- What a stop says of the run that it ends.
-use Rattle.std.specs.Prelude.{◌≡◌, ℕ, ◌⊎◌, List, Option, Some, None, Vec, Result, Ok, Err, codes}
+use Rattle.std.specs.Prelude.{◌≡◌, ℕ, ◌⊎◌, List, Option, Some, None, IfSome, Vec, Result, Ok, Err, codes}
 use Rattle.std.specs.Global.{Global}
 use Rattle.ck_base.specs.Lines.{line_of, status_of}
 use Rattle.ck_base.specs.declared.fault.SpecFault.{SpecFault}
@@ -37,6 +37,10 @@ answer_in (Ok bytes) = Some (output bytes.items)
 answer_in (Err (Refused r)) = Some (refused r)
 answer_in (Err ReadFault) = None
 answer_in (Err NoMemory) = None
+
+-- the answer that was found is wanted, and where a read failed, `read_failed` holds
+abbrev pub Meets : (Outcome → Type 0) → Type 0 → Result (Vec ℕ Global) Stop → Type 0
+Meets wants read_failed found = IfSome (answer_in found) wants × (found ≡ Err ReadFault → read_failed)
 
 -- the line of the stop is told; memory may want for the line of a refusal
 abbrev pub Explains : Stop → Sunk → Status → Type 0

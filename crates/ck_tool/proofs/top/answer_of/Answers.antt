@@ -3,7 +3,7 @@ use Rattle.std.proofs.Common.{refl}
 use Rattle.rex_model.specs.RuleMeaning.{rules_of}
 use Rattle.ck_tool.specs.Accepts.{Accepts}
 use Rattle.ck_tool.specs.Wanted.{ReadFailed, Wanted}
-use Rattle.ck_tool.proofs.AnswerOfRun.{rose_before, reads_spec, reads_source, stop_at_spec, stop_at_fault, stop_at_source, answer_of_stage, answer_of_stop, fault_of_stop}
+use Rattle.ck_tool.proofs.AnswerOfRun.{rose_before, reads_spec, reads_source, stop_at_spec, stop_at_fault, stop_at_source, stage_meets, stop_meets}
 use Rattle.ck_tool.proofs.ScannedRules.{have_names}
 use Rattle.ck_tool.proofs.top.answer_of.Goals as goal
 
@@ -12,25 +12,18 @@ returns-in_err-spec-clause-answer g c = λ words asked.
     let files = g.F.Files in
     let told = files.contents c.args.files.now in
     let failed = ReadFailed files.contents files.faults words c.args.files.now c.read.new.files in
-    answer_of_stop (Wanted told words) failed _ _ c.from_residual.ensures.1
-    (stop_at_spec told words _ _ _ asked failed _ _ _ refl
-    (λ rose. (c.args.command.spec.now, reads_spec told words _ _ _ asked, rose)) c.in_err-spec.ensures.stop)
-
-pub returns-in_err-spec-clause-fault : goal.returns-in_err-spec-clause-fault
-returns-in_err-spec-clause-fault g c = λ words asked.
-    let files = g.F.Files in
-    let told = files.contents c.args.files.now in
-    let failed = ReadFailed files.contents files.faults words c.args.files.now c.read.new.files in
-    fault_of_stop (Wanted told words) failed _ _ c.from_residual.ensures.1
+    stop_meets (Wanted told words) failed _ _ c.from_residual.ensures.1
     (stop_at_spec told words _ _ _ asked failed _ _ _ refl
     (λ rose. (c.args.command.spec.now, reads_spec told words _ _ _ asked, rose)) c.in_err-spec.ensures.stop)
 
 pub returns-in_err-rules-clause-answer : goal.returns-in_err-rules-clause-answer
 returns-in_err-rules-clause-answer g c = λ words asked.
-    let told = g.F.Files.contents c.args.files.now in
+    let files = g.F.Files in
+    let told = files.contents c.args.files.now in
+    let failed = ReadFailed files.contents files.faults words c.args.files.now c.read.new.files in
     let fault = rw c.as_slice.ensures.value at c.in_err-rules.ensures.fault in
-    answer_of_stop (Wanted told words) ⊥ _ _ c.from_residual-in_err-rules.ensures.1
-    (stop_at_fault told words _ _ _ asked _ _ c.in_ok-spec.ensures.all c.in_ok-spec.ensures.within fault)
+    stop_meets (Wanted told words) failed _ _ c.from_residual-in_err-rules.ensures.1
+    (stop_at_fault told words _ _ _ asked failed _ _ c.in_ok-spec.ensures.all c.in_ok-spec.ensures.within fault)
 
 pub returns-in_err-source-clause-answer : goal.returns-in_err-source-clause-answer
 returns-in_err-source-clause-answer g c = λ words asked.
@@ -43,26 +36,7 @@ returns-in_err-source-clause-answer g c = λ words asked.
     } in
     let stop = rw (c.in_ok-spec.ensures.same name) at c.in_err-source.ensures.stop in
     let failed = ReadFailed files.contents files.faults words c.args.files.now c.read-2.new.files in
-    answer_of_stop (Wanted told words) failed _ _ c.from_residual-in_err-source.ensures.1
-    (stop_at_source told words _ _ _ asked _ _ c.in_ok-spec.ensures.all accepts failed _ _ _ refl
-    (λ rose. (
-      name,
-      reads_source told words _ _ _ asked _ _ c.in_ok-spec.ensures.all accepts,
-      rose_before _ _ _ (c.in_ok-spec.ensures.later name) rose,
-    )) stop)
-
-pub returns-in_err-source-clause-fault : goal.returns-in_err-source-clause-fault
-returns-in_err-source-clause-fault g c = λ words asked.
-    let files = g.F.Files in
-    let told = files.contents c.args.files.now in
-    let name = c.args.command.source.now in
-    let accepts : Accepts c.in_ok-spec.spec.items (rules_of c.in_ok-rules.rules) = record {
-      fits = c.in_ok-spec.ensures.within;
-      declares = rw c.as_slice.ensures.value at c.in_ok-rules.ensures.declared;
-    } in
-    let stop = rw (c.in_ok-spec.ensures.same name) at c.in_err-source.ensures.stop in
-    let failed = ReadFailed files.contents files.faults words c.args.files.now c.read-2.new.files in
-    fault_of_stop (Wanted told words) failed _ _ c.from_residual-in_err-source.ensures.1
+    stop_meets (Wanted told words) failed _ _ c.from_residual-in_err-source.ensures.1
     (stop_at_source told words _ _ _ asked _ _ c.in_ok-spec.ensures.all accepts failed _ _ _ refl
     (λ rose. (
       name,
@@ -82,4 +56,5 @@ returns-clause-answer g c = λ words asked.
     } in
     let is = rw (c.in_ok-spec.ensures.same c.args.command.source.now) at c.in_ok-source.ensures.all in
     let made = rw c.as_slice-2.ensures.value at c.make.ensures.answer in
-    answer_of_stage told words _ _ _ asked _ _ c.in_ok-spec.ensures.all accepts _ c.make.result is c.in_ok-source.ensures.within made
+    stage_meets told words _ _ _ asked _ _ c.in_ok-spec.ensures.all accepts _ _ c.make.result is c.in_ok-source.ensures.within made
+    c.make.ensures.reads_nothing
