@@ -6,6 +6,8 @@ use std::fs;
 const THERE: &str = "examples/01-tokens/SPEC";
 
 const MISSING: &str = "examples/none";
+/// More bytes than the file has.
+const LIMIT: usize = 1_000;
 
 /// Tries what no contract tells: that the disk's bytes come, and that a full writer fails.
 pub(crate) fn try_edges(rt: &HostRuntime) -> Result<()> {
@@ -17,11 +19,11 @@ pub(crate) fn try_edges(rt: &HostRuntime) -> Result<()> {
 fn try_disk(rt: &HostRuntime) -> Result<()> {
     let wanted = fs::read(rt, THERE)?;
     let mut files = DiskFiles::new(rt);
-    match load(rt.alloc(), &mut files, THERE, wanted.len()) {
+    match load(rt.alloc(), &mut files, THERE, LIMIT) {
         Ok(came) if came.as_slice() == wanted.as_slice() => {}
         _ => bail!("DiskFiles doesn't give the bytes of {THERE}"),
     }
-    match load(rt.alloc(), &mut files, MISSING, 9) {
+    match load(rt.alloc(), &mut files, MISSING, LIMIT) {
         Err(LoadError::ReadFault) => Ok(()),
         _ => bail!("DiskFiles doesn't fail at {MISSING}"),
     }
