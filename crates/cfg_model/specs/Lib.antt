@@ -3,6 +3,7 @@ pub mod Derivation
 pub mod LeftRanks
 pub mod LlConflicts
 pub mod LlTables
+pub mod Promise
 pub mod Rows
 pub mod Searches
 pub mod Sets

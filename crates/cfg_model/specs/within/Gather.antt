@@ -37,7 +37,3 @@ pub record IsDownBefore (g : Cfg) (i : ℕ) (e : Edge) : Type 0 where
 pub record AreDown (g : Cfg) (edges : List Edge) : Type 0 where
   pub only : (e : Edge) → At edges e → (r : ℕ) × (w : List Sym) × IsRule g r e.from w × Behind (λ _. Unit {0}) w e.to
   pub all : (r a b : ℕ) (w : List Sym) → IsRule g r a w → Behind (λ _. Unit {0}) w b → At edges (record { from = a; to = b })
-
--- the set has the reachable nonterminals
-abbrev pub AreReachable : Cfg → BitSet → Type 0
-AreReachable g = IsSetOf g.nonterminals (Reachable g)
