@@ -1,5 +1,5 @@
 -- What the calls that find a grammar's sets give.
-use Rattle.std.specs.Prelude.{ℕ, ◌+◌, List, [], ◌∷◌}
+use Rattle.std.specs.Prelude.{◌+◌, List, [], ◌∷◌}
 use Rattle.ck_base.specs.BitSet.{BitSet}
 use Rattle.cfg_model.specs.declared.symbol.Sym.TheVariants.{N}
 use Rattle.cfg_model.specs.Cfg.{Cfg}

@@ -1,12 +1,9 @@
 -- Lists that gather what a loop meets, and what stands in a right side with a rest behind it.
 use Rattle.std.specs.Prelude.{◌≡◌, ℕ, ◌⊎◌, ◌<◌, List, [], ◌∷◌, slice_get, Some}
-use Rattle.ck_base.specs.BitSet.{BitSet}
 use Rattle.cfg_model.specs.declared.symbol.Sym.{Sym}
 use Rattle.cfg_model.specs.declared.symbol.Sym.TheVariants.{T, N}
 use Rattle.cfg_model.specs.declared.rows.Edge.{Edge}
 use Rattle.cfg_model.specs.Cfg.{Cfg, IsRule}
-use Rattle.cfg_model.specs.Sets.{Reachable}
-use Rattle.cfg_model.specs.Rows.{IsSetOf}
 use Rattle.cfg_model.specs.within.Parts.{At}
 
 -- the new list has the old one's elements and those of which P holds
