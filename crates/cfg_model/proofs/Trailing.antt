@@ -15,7 +15,8 @@ use Rattle.cfg_model.specs.within.Parts.{Begins}
 use Rattle.cfg_model.specs.Rows.{In, IsSetOf, AreRowsOf}
 use Rattle.cfg_model.specs.within.Spreading.{IsInside, IsEdge, Leads, here, on, AreSpread}
 use Rattle.cfg_model.specs.within.FollowParts.{FollowBase, the_end, behind, FollowEdge}
-use Rattle.cfg_model.specs.within.Gather.{Gathers, Behind, AreReachable}
+use Rattle.cfg_model.specs.within.Gather.{Gathers, Behind}
+use Rattle.cfg_model.specs.Promise.{AreReachable}
 use Rattle.cfg_model.specs.within.Trailers.{JoinsRows, Fronted, IsAhead, StandsIn, BeginsBehind, VanishBehind, AreBehind}
 use Rattle.cfg_model.proofs.Forests.{Gives, gives_of_steps, steps_both}
 use Rattle.cfg_model.proofs.Gathering.{all_of_at, gathers_then, gathers_same, behind_cut, behind_there}

@@ -7,6 +7,7 @@ pub mod LeftRanks
 pub mod LlConflicts
 pub mod LlTables
 pub mod LrTables
+pub mod Promise
 pub mod Rows
 pub mod Searches
 pub mod Sets

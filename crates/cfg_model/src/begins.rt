@@ -3,7 +3,8 @@ ghost use Rattle.ck_base.specs.BitSet.{Has, Adds};
 ghost use Rattle.cfg_model.specs.within.Closing.{AllPass};
 ghost use Rattle.cfg_model.specs.Cfg.{IsGrammar, IsSymbol};
 ghost use Rattle.cfg_model.specs.Sets.{Nullable, AllProductive, First};
-ghost use Rattle.cfg_model.specs.Rows.{IsSetOf, AreRows, AreRowsOf};
+ghost use Rattle.cfg_model.specs.Promise.{AreNullable, AreFirsts};
+ghost use Rattle.cfg_model.specs.Rows.{AreRows};
 ghost use Rattle.cfg_model.specs.declared.symbol.Sym.TheVariants.{N};
 ghost use Rattle.cfg_model.specs.within.Parts.{Begins, IsBelow};
 
@@ -17,8 +18,8 @@ pub fn add_first(g: &Grammar, list: &[Sym], firsts: &[Bits], null: &Bits, to: &m
     requires grammar { IsGrammar g.now }
     requires productive { AllProductive g.now }
     requires list { All (IsSymbol g.now) list.now }
-    requires firsts { AreRowsOf g.now.nonterminals (g.now.terminals + 1) (λ n. First g.now (N n ∷ [])) firsts.now }
-    requires null { IsSetOf g.now.nonterminals (λ n. Nullable g.now (N n ∷ [])) null.now }
+    requires firsts { AreFirsts g.now firsts.now }
+    requires null { AreNullable g.now null.now }
     requires size { to.old.size ≡ g.now.terminals + 1 }
     ensures first { Adds to.old to.new (First g.now list.now) }
     ensures vanish { IsTrue result ↔ Nullable g.now list.now }

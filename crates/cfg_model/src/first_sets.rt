@@ -3,7 +3,8 @@ ghost use Rattle.ck_base.specs.BitSet.{Has};
 ghost use Rattle.cfg_model.specs.declared.symbol.Sym.TheVariants.{T, N};
 ghost use Rattle.cfg_model.specs.Cfg.{IsGrammar};
 ghost use Rattle.cfg_model.specs.Sets.{First, AllProductive};
-ghost use Rattle.cfg_model.specs.Rows.{In, AreRows, AreRowsOf};
+ghost use Rattle.cfg_model.specs.Promise.{AreFirsts};
+ghost use Rattle.cfg_model.specs.Rows.{In, AreRows};
 ghost use Rattle.cfg_model.specs.within.Spreading.{IsInside, IsEdge};
 ghost use Rattle.cfg_model.specs.within.Parts.{At, AreInRange, IsAddedAt, AreFirstBase, AreFirstEdges};
 
@@ -19,7 +20,7 @@ use std::alloc::Global;
 pub fn first(alloc: Global, g: &Grammar) -> Result<Vec<Bits>, NoMemory>
     requires grammar { IsGrammar g.now }
     requires productive { AllProductive g.now }
-    ensures { IfOk result (λ rows. AreRowsOf g.now.nonterminals (g.now.terminals + 1) (λ n. First g.now (N n ∷ [])) rows.items) }
+    ensures { IfOk result (λ rows. AreFirsts g.now rows.items) }
 {
     let null = nullable(alloc, g)?;
     let parts = left_parts(alloc, g, &null)?;

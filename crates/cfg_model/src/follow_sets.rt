@@ -4,7 +4,8 @@ ghost use Rattle.cfg_model.specs.declared.symbol.Sym.TheVariants.{N};
 ghost use Rattle.cfg_model.specs.Cfg.{IsGrammar};
 ghost use Rattle.cfg_model.specs.within.Closing.{Passes};
 ghost use Rattle.cfg_model.specs.Sets.{Follow, AllProductive};
-ghost use Rattle.cfg_model.specs.Rows.{AreRows, AreRowsOf};
+ghost use Rattle.cfg_model.specs.Promise.{AreFollows};
+ghost use Rattle.cfg_model.specs.Rows.{AreRows};
 ghost use Rattle.cfg_model.specs.within.Parts.{IsBelow};
 ghost use Rattle.cfg_model.specs.within.Gather.{Gathers};
 ghost use Rattle.cfg_model.specs.within.Trailers.{JoinsRows, Fronted, IsAhead, BeginsBehind, VanishBehind, AreBehind};
@@ -22,7 +23,7 @@ use std::alloc::Global;
 pub fn follow(alloc: Global, g: &Grammar) -> Result<Vec<Bits>, NoMemory>
     requires grammar { IsGrammar g.now }
     requires productive { AllProductive g.now }
-    ensures { IfOk result (λ rows. AreRowsOf g.now.nonterminals (g.now.terminals + 1) (Follow g.now) rows.items) }
+    ensures { IfOk result (λ rows. AreFollows g.now rows.items) }
 {
     let null = nullable(alloc, g)?;
     let firsts = first(alloc, g)?;

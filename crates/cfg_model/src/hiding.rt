@@ -69,7 +69,8 @@ fn hide_rule(rule: &GrammarRule, null: &Bits, met: &[Bits], rows: &mut Vec<Bits>
     requires met { AreRows count count met.now }
     requires rows { AreRows count count rows.old.items }
     ensures rows { AreRows count count rows.new.items }
-    ensures hidden { JoinsRows rows.old.items rows.new.items (λ n t. (n ≡ rule.now.left) × FrontMeets null.now met.now false rule.now.right t) }
+    ensures hidden { JoinsRows rows.old.items rows.new.items (λ n t. (n ≡ rule.now.left)
+        × FrontMeets null.now met.now false rule.now.right t) }
 {
     let left = rule.left;
     let right = rule.right.as_slice();
@@ -91,7 +92,8 @@ fn hide_symbol(symbol: Sym, behind: bool, left: u32, met: &[Bits], rows: &mut Ve
     requires met { AreRows count count met.now }
     requires rows { AreRows count count rows.old.items }
     ensures rows { AreRows count count rows.new.items }
-    ensures joined { JoinsRows rows.old.items rows.new.items (λ n t. (n ≡ left) × IsTrue behind × Meets met.now symbol t) }
+    ensures joined { JoinsRows rows.old.items rows.new.items (λ n t. (n ≡ left) × IsTrue behind
+        × Meets met.now symbol t) }
 {
     if let Sym::N(n) = symbol {
         if behind {

@@ -4,8 +4,13 @@
 //! |---|---|
 //! | grammars; a grammar with its names | `src/symbol.rt`, `src/grammar.rt`, `src/named.rt`; `specs/Cfg.antt` |
 //! | derivations, sentences, what can still become one; derive steps | `specs/Derivation.antt`, `specs/Steps.antt` |
-//! | nullable, productive, reachable, FIRST, FOLLOW | `specs/Sets.antt`; sets as answers: `specs/Rows.antt` |
+//! | the sets of a grammar; what the calls that find them give | `specs/Sets.antt`; `specs/Promise.antt` |
+//! | nullable, productive; reachable | `src/closing.rt`, `proofs/Makers.antt`; `src/reach.rt` |
+//! | FIRST; FOLLOW | `src/first_sets.rt`, `proofs/FirstSets.antt`; `src/follow_sets.rt`, `proofs/FollowSets.antt` |
 //! | cyclic, hidden left recursive, left recursive; the least one | `specs/Searches.antt` |
+//! | the same, found | `src/looping.rt`, `src/hiding.rt`, `src/met.rt`; `src/least.rt` |
+//! | the same, proved | `proofs/Cycles.antt`, `proofs/HiddenRows.antt`, `proofs/LeftPaths.antt` |
+//! | sets that spread along edges; numbers that fall | `src/rows.rt`; `src/left_ranks.rt` |
 //! | LL(1) conflicts; LL tables | `specs/LlConflicts.antt`; `src/ll_table.rt`, `specs/LlTables.antt` |
 //! | valid items, cores, united lookaheads; their laws | `specs/Valid.antt`; `src/lalr_laws.rt` |
 //! | the numbering of cores; LALR conflicts | `specs/Cores.antt`; `specs/LalrConflicts.antt` |

@@ -1,5 +1,5 @@
 -- The order of reports, and cells as answers.
-use Rattle.std.proofs.Common.{◌≡◌, ◌<◌, ℕ, inl, inr, refl, arith, None, Some}
+use Rattle.std.proofs.Common.{◌≡◌, inl, inr, refl, arith, None}
 use Rattle.ell_tables.specs.Table.{as_rule}
 use Rattle.ell_tables.specs.within.Fill.{Precedes}
 
@@ -16,5 +16,5 @@ terminal_counts_last : Precedes (record { nonterminal = 0; rule = 1; other = 2; 
 terminal_counts_last = inr (refl, inr (refl, inl (omega arith)))
 
 -- 0 is no rule, since rules count from 1
-no_rule : as_rule 0 ≡ None {A = ℕ}
+no_rule : as_rule 0 ≡ None
 no_rule = refl

@@ -1,7 +1,7 @@
 ghost use Rattle.std.specs.Prelude.{◌≡◌, ◌<◌, ◌≤◌, ◌+◌, ◌*◌, ℕ, [], ◌∷◌, length, IfOk, IfErr, All};
 ghost use Rattle.cfg_model.specs.Cfg.{IsGrammar, IsSymbol};
 ghost use Rattle.cfg_model.specs.LlTables.{IsLl, IsPrediction};
-ghost use Rattle.cfg_model.specs.Rows.{IsSetOf, AreRowsOf};
+ghost use Rattle.cfg_model.specs.Promise.{AreNullable, AreReachable, AreFirsts, AreFollows};
 ghost use Rattle.cfg_model.specs.Sets.{AllProductive, Nullable, Reachable, First, Follow};
 ghost use Rattle.cfg_model.specs.declared.symbol.Sym.TheVariants.{N};
 ghost use Rattle.ell_tables.specs.Promise.{IsTableOf, IsRefused};
@@ -93,10 +93,10 @@ fn rule_set(
     requires productive { AllProductive g.now }
     requires left { rule.now.left < g.now.nonterminals }
     requires right { All (IsSymbol g.now) rule.now.right }
-    requires null { IsSetOf g.now.nonterminals (λ n. Nullable g.now (N n ∷ [])) null.now }
-    requires reach { IsSetOf g.now.nonterminals (Reachable g.now) reach.now }
-    requires firsts { AreRowsOf g.now.nonterminals (g.now.terminals + 1) (λ n. First g.now (N n ∷ [])) firsts.now }
-    requires follows { AreRowsOf g.now.nonterminals (g.now.terminals + 1) (Follow g.now) follows.now }
+    requires null { AreNullable g.now null.now }
+    requires reach { AreReachable g.now reach.now }
+    requires firsts { AreFirsts g.now firsts.now }
+    requires follows { AreFollows g.now follows.now }
     ensures size { IfOk result (λ set. set.size ≡ g.now.terminals + 1) }
     ensures has { IfOk result (IsRuleSet g.now rule.now) }
 {

@@ -19,7 +19,8 @@ pub struct Listed<'a> {
 impl<'a> Listed<'a> {
     /// The tokens of the list, with END at the place.
     pub fn new(tokens: &'a [TokenRef], place: u32) -> Listed<'a>
-        ensures { (all : List TokenRef) (ending : Ending) → comes_of result all ending ↔ ((all ≡ tokens.now) × (ending ≡ finished place)) }
+        ensures { (all : List TokenRef) (ending : Ending) → comes_of result all ending
+            ↔ ((all ≡ tokens.now) × (ending ≡ finished place)) }
     {
         Listed {
             tokens,
@@ -31,7 +32,8 @@ impl<'a> Listed<'a> {
 
     /// The tokens of the list, with a bad place behind them.
     pub fn bad(tokens: &'a [TokenRef], place: u32) -> Listed<'a>
-        ensures { (all : List TokenRef) (ending : Ending) → comes_of result all ending ↔ ((all ≡ tokens.now) × (ending ≡ bad_at place)) }
+        ensures { (all : List TokenRef) (ending : Ending) → comes_of result all ending
+            ↔ ((all ≡ tokens.now) × (ending ≡ bad_at place)) }
     {
         Listed {
             tokens,

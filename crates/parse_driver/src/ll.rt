@@ -33,6 +33,8 @@ enum Turn {
     Stuck,
 }
 
+/// The derivation of the tokens that are to come, as its steps in postorder, or why there is none. Tokens are
+/// drawn one at a time, and none behind the first wrong one.
 pub fn parse_ll<T: LlTable, K: Tokens>(
     alloc: Global,
     table: &T,
@@ -41,10 +43,12 @@ pub fn parse_ll<T: LlTable, K: Tokens>(
     requires table { IsLlTable (T.grammar table.now) (T.falling table.now) (T.answer table.now) }
     requires open { IsTrue (K.is_open tokens.old) }
     requires some { (all : List TokenRef) × (ending : Ending) × K.comes tokens.old all ending }
-    requires few { (all : List TokenRef) (ending : Ending) → K.comes tokens.old all ending → length all + 1 < 2 ^ 32 }
+    requires few { (all : List TokenRef) (ending : Ending) → K.comes tokens.old all ending
+        → length all + 1 < 2 ^ 32 }
     requires terminals { (all : List TokenRef) (ending : Ending) → K.comes tokens.old all ending
         → All (λ k. k.terminal < (T.grammar table.now).terminals) all }
-    ensures { (all : List TokenRef) (ending : Ending) → K.comes tokens.old all ending → Parses (T.grammar table.now) all ending result }
+    ensures { (all : List TokenRef) (ending : Ending) → K.comes tokens.old all ending
+        → Parses (T.grammar table.now) all ending result }
 {
     let mut stack = Vec::new(alloc);
     let mut steps = Vec::new(alloc);
