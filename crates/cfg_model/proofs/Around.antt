@@ -29,27 +29,39 @@ pub record Around (g : Cfg) (q : List Sym) (r : ℕ) (y : List Sym) (a : ℕ) : 
 
 pub around : (g : Cfg) → IsGrammar g → (q : List Sym) (r d : ℕ) (y : List Sym) (a : ℕ) → Valid g q r d y a → Around g q r y a
 around g ok q r d y a start =
-    record { rest = []; begins = refl; below = λ k d under. absurd (omega arith); steps = none;
-             some = λ one. absurd (omega (arith, one)) }
+    record {
+      rest = [];
+      begins = refl;
+      below = λ k d under. absurd (omega arith);
+      steps = none;
+      some = λ one. absurd (omega (arith, one));
+    }
 around g ok q r d y a (closure _ r2 d2 n y2 a2 s _ _ v is (w, derives, first)) =
     let h = around g ok q r2 d2 _ a2 v in
     let once : StepsOnce g (N g.start ∷ []) (reverse q ++ (y ++ (y2 ++ word h.rest))) =
-        (reverse q ++ (N n ∷ (y2 ++ word h.rest)), h.steps, step s n y (reverse q) (y2 ++ word h.rest) is) in
+    (reverse q ++ (N n ∷ (y2 ++ word h.rest)), h.steps, step s n y (reverse q) (y2 ++ word h.rest) is) in
     let tail : Steps g (reverse q ++ (y ++ (y2 ++ word h.rest))) (reverse q ++ (y ++ (word w ++ word h.rest))) =
-        subst (λ l. Steps g l (reverse q ++ (y ++ (word w ++ word h.rest)))) (append_assoc (reverse q) y (y2 ++ word h.rest))
-            (subst (λ l. Steps g ((reverse q ++ y) ++ (y2 ++ word h.rest)) l) (append_assoc (reverse q) y (word w ++ word h.rest))
-                (steps_within g (reverse q ++ y) (word h.rest) derives)) in
+    subst (λ l. Steps g l (reverse q ++ (y ++ (word w ++ word h.rest)))) (append_assoc (reverse q) y (y2 ++ word h.rest))
+    (subst (λ l. Steps g ((reverse q ++ y) ++ (y2 ++ word h.rest)) l) (append_assoc (reverse q) y (word w ++ word h.rest))
+    (steps_within g (reverse q ++ y) (word h.rest) derives)) in
     let whole : StepsOnce g (N g.start ∷ []) (reverse q ++ (y ++ word (w ++ h.rest))) =
-        subst (λ l. StepsOnce g (N g.start ∷ []) (reverse q ++ (y ++ l))) (sym (word_append g w h.rest)) (once_then g _ _ _ once tail) in
-    record { rest = w ++ h.rest;
-             begins = first_of-append w h.rest g.terminals ∙ (ap (first_of w) h.begins ∙ first);
-             below = All-append (λ t. t < g.terminals) w h.rest
-                 (known_word g ok y2 w (All-tail (IsSymbol g) (N n) y2 (behind_dot g ok q r2 d2 _ a2 v)) derives) h.below;
-             steps = more _ _ whole.1 whole.2; some = λ one. whole }
+    subst (λ l. StepsOnce g (N g.start ∷ []) (reverse q ++ (y ++ l))) (sym (word_append g w h.rest)) (once_then g _ _ _ once tail) in
+    record {
+      rest = w ++ h.rest;
+      begins = first_of-append w h.rest g.terminals ∙ (ap (first_of w) h.begins ∙ first);
+      below = All-append (λ t. t < g.terminals) w h.rest
+          (known_word g ok y2 w (All-tail (IsSymbol g) (N n) y2 (behind_dot g ok q r2 d2 _ a2 v)) derives) h.below;
+      steps = more _ _ whole.1 whole.2;
+      some = λ one. whole;
+    }
 around g ok q r d y a (move p2 r2 d2 x _ _ v) =
     let h = around g ok p2 r2 d2 _ a v in
     let flat : reverse p2 ++ ((x ∷ y) ++ word h.rest) ≡ reverse (x ∷ p2) ++ (y ++ word h.rest) =
-        sym (append_assoc (reverse p2) (x ∷ []) (y ++ word h.rest)) ∙ ap (λ l. l ++ (y ++ word h.rest)) (sym (reverse-cons x p2)) in
-    record { rest = h.rest; begins = h.begins; below = h.below;
-             steps = subst (λ l. Steps g (N g.start ∷ []) l) flat h.steps;
-             some = λ one. subst (λ l. StepsOnce g (N g.start ∷ []) l) flat (h.some one) }
+    sym (append_assoc (reverse p2) (x ∷ []) (y ++ word h.rest)) ∙ ap (λ l. l ++ (y ++ word h.rest)) (sym (reverse-cons x p2)) in
+    record {
+      rest = h.rest;
+      begins = h.begins;
+      below = h.below;
+      steps = subst (λ l. Steps g (N g.start ∷ []) l) flat h.steps;
+      some = λ one. subst (λ l. StepsOnce g (N g.start ∷ []) l) flat (h.some one);
+    }

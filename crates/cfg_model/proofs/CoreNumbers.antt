@@ -43,9 +43,13 @@ same_number g cores n p q a b r d y = (one p q a b, one q p b a)
 
 pub number_of_same : (g : Cfg) (cores : CoreList) (n : ℕ) (p q : List Sym) → IsCore g cores n p → SameCore g p q → IsCore g cores n q
 number_of_same g cores n p q a s =
-    record { inside = a.inside;
-             items = λ r d. (λ has. (let (y, i) = (a.items r d).0 has in (y, (s r d y).0 i)),
-                             λ has. (a.items r d).1 (has.0, (s r d has.0).1 has.1)) }
+    record {
+      inside = a.inside;
+      items = λ r d. (
+        λ has. (let (y, i) = (a.items r d).0 has in (y, (s r d y).0 i)),
+        λ has. (a.items r d).1 (has.0, (s r d has.0).1 has.1),
+      );
+    }
 
 -- what the loop over the cores leaves: every core is some prefix's, and each move is a known core's
 pub record Closes (g : Cfg) (cores : CoreList) : Type 0 where
@@ -92,7 +96,7 @@ each_in g cores In c dem p n r d y a (Spreads.move o _ r2 d2 x _ _ s same) is =
     let item = spread_item g o r2 d2 (x ∷ y) a s in
     let (k, here) = c.all o (r2, d2, x ∷ y, item) in
     dem.move o k n r2 d2 x y a here item (number_of_same g cores n p (x ∷ o) is (same_back g _ _ same))
-        (each_in g cores In c dem o k r2 d2 _ a s here)
+    (each_in g cores In c dem o k r2 d2 _ a s here)
 
 -- a relation that stays within what spreads
 abbrev pub Within : Cfg → CoreList → (ℕ → ℕ → ℕ → ℕ → Type 0) → Type 0

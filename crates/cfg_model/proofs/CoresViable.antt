@@ -25,5 +25,5 @@ core_viable g p u ok all (r, d, y, (a, v)) derives =
     let (m, e) = all_derive g y all (behind_dot g ok p r d y a v) in
     let whole = steps_then g h.steps (steps_both g derives (steps_before g (word h.rest) e)) in
     let flat : word u ++ (word m ++ word h.rest) ≡ word (u ++ (m ++ h.rest)) =
-        ap (λ l. word u ++ l) (sym (word_append g m h.rest)) ∙ sym (word_append g u (m ++ h.rest)) in
+    ap (λ l. word u ++ l) (sym (word_append g m h.rest)) ∙ sym (word_append g u (m ++ h.rest)) in
     (m ++ h.rest, sentence_of g (u ++ (m ++ h.rest)) (subst (λ l. Steps g (N g.start ∷ []) l) flat whole))

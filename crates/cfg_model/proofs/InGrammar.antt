@@ -36,7 +36,7 @@ known_yield g ok ss f are (token t k u f2 is d) =
     All-cons (λ t. t < g.terminals) k (yield f2) (omega (arith, first, is)) (known_yield g ok u f2 (All-tail (IsSymbol g) (T t) u are) d)
 known_yield g ok ss f are (rule r n w u c f2 is dc d) =
     All-append (λ t. t < g.terminals) (yield c) (yield f2) (known_yield g ok w c (right_in g ok r n w is) dc)
-        (known_yield g ok u f2 (All-tail (IsSymbol g) (N n) u are) d)
+    (known_yield g ok u f2 (All-tail (IsSymbol g) (N n) u are) d)
 
 -- the terminals of a derived word are the grammar's
 pub known_word : (g : Cfg) → IsGrammar g → (ss : List Sym) (w : List ℕ) → All (IsSymbol g) ss → Steps g ss (word w)

@@ -28,9 +28,10 @@ moved_core g p q x r d y a sub (move _ r2 d2 _ _ _ v) =
 
 -- equal cores move to equal cores
 pub same_moved : (g : Cfg) (p q : List Sym) (x : Sym) → SameCore g p q → SameCore g (x ∷ p) (x ∷ q)
-same_moved g p q x s r d y =
-    (λ h. moved_core g p q x r d y h.0 (λ r d y. (s r d y).0) h.1,
-     λ h. moved_core g q p x r d y h.0 (λ r d y. (s r d y).1) h.1)
+same_moved g p q x s r d y = (
+  λ h. moved_core g p q x r d y h.0 (λ r d y. (s r d y).0) h.1,
+  λ h. moved_core g q p x r d y h.0 (λ r d y. (s r d y).1) h.1,
+)
 
 -- what is valid spreads
 pub valid_spreads : (g : Cfg) (p : List Sym) (r d : ℕ) (y : List Sym) (a : ℕ)
@@ -64,6 +65,7 @@ spreads_look g p r d y a (Spreads.move o _ r2 d2 x _ _ v t) =
 -- the united lookaheads are the least relation on cores
 pub looks_spread : (g : Cfg) (p : List Sym) (r d : ℕ) (y : List Sym) (a : ℕ)
     → Look g p r d y a ↔ Spreads g p r d y a
-looks_spread g p r d y a =
-    (λ h. same_spreads g h.0 p r d y a (same_back g _ _ h.1) (valid_spreads g h.0 r d y a h.2),
-     spreads_look g p r d y a)
+looks_spread g p r d y a = (
+  λ h. same_spreads g h.0 p r d y a (same_back g _ _ h.1) (valid_spreads g h.0 r d y a h.2),
+  spreads_look g p r d y a,
+)

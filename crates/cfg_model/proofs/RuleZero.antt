@@ -44,8 +44,8 @@ rule_zero g ok free p s t (d, (q0, same0, v0)) (e, (q1, same1, v1)) one =
     let h = around g ok q1 s e [] t v1 in
     let none_left = no_rest g h.rest h.below (h.begins ∙ last) in
     let back : reverse q1 ++ ([] ++ word h.rest) ≡ N g.start ∷ [] =
-        ap (λ l. reverse l ++ word h.rest) prefix ∙ (ap (λ l. reverse (N g.start ∷ []) ++ word l) none_left
-            ∙ (append-nil (reverse (N g.start ∷ [])) ∙ reverse-cons (N g.start) [])) in
+    ap (λ l. reverse l ++ word h.rest) prefix ∙ (ap (λ l. reverse (N g.start ∷ []) ++ word l) none_left
+    ∙ (append-nil (reverse (N g.start ∷ [])) ∙ reverse-cons (N g.start) [])) in
     free (subst (λ l. StepsOnce g (N g.start ∷ []) l) back (h.some one))
 
 pub no_shift_at_end : (g : Cfg) → IsGrammar g → (p : List Sym) (t : ℕ) → Completes g p 0 t → Shifts g p t → ⊥

@@ -20,7 +20,7 @@ moves_at cores n = slice_index_or cores.moves n []
 -- core n is that of the prefix
 pub record IsCore (g : Cfg) (cores : CoreList) (n : ℕ) (p : List Sym) : Type 0 where
   pub inside : n < length cores.items
-  pub items : (r d : ℕ) → Contains (items_at cores n) (r , d) ↔ ((y : List Sym) × InCore g p r d y)
+  pub items : (r d : ℕ) → Contains (items_at cores n) (r, d) ↔ ((y : List Sym) × InCore g p r d y)
 
 -- the first symbol stands before the second: terminals before nonterminals, each by number
 abbrev pub Before : Sym → Sym → Type 0
@@ -32,9 +32,9 @@ Before (N a) (N b) = a < b
 -- each symbol stands before the next one
 pub data Rising : List (Sym × ℕ) → Type 0 where
   none : Rising []
-  one : (x : Sym) (n : ℕ) → Rising ((x , n) ∷ [])
-  more : (x y : Sym) (n m : ℕ) (rest : List (Sym × ℕ)) → Before x y → Rising ((y , m) ∷ rest)
-      → Rising ((x , n) ∷ (y , m) ∷ rest)
+  one : (x : Sym) (n : ℕ) → Rising ((x, n) ∷ [])
+  more : (x y : Sym) (n m : ℕ) (rest : List (Sym × ℕ)) → Before x y → Rising ((y, m) ∷ rest)
+      → Rising ((x, n) ∷ (y, m) ∷ rest)
 
 -- the numbers that moves lead to, in order
 abbrev pub targets : List (List (Sym × ℕ)) → List ℕ
@@ -57,7 +57,7 @@ pub record IsCores (g : Cfg) (cores : CoreList) : Type 0 where
   pub single : (n i j : ℕ) (item : ℕ × ℕ) → slice_get (items_at cores n) i ≡ Some item
       → slice_get (items_at cores n) j ≡ Some item → i ≡ j
   pub moves : (p : List Sym) (n : ℕ) (x : Sym) (m : ℕ) → IsCore g cores n p
-      → Contains (moves_at cores n) (x , m) ↔ (HasCore g (x ∷ p) × IsCore g cores m (x ∷ p))
+      → Contains (moves_at cores n) (x, m) ↔ (HasCore g (x ∷ p) × IsCore g cores m (x ∷ p))
   pub rising : (n : ℕ) → Rising (moves_at cores n)
   pub order : FirstMet (0 ∷ targets cores.moves)
 
