@@ -146,10 +146,10 @@ module _ (g : Cfg) (null : BitSet) (nullable_is : AreMakers false g null) where
   once_then u v w first (x, steps, last) = (x, steps_then g first steps, last)
 
   -- left runs behind something that isn't empty
-  abbrev HiddenRun : ℕ → ℕ → Type 0
+  abbrev pub HiddenRun : ℕ → ℕ → Type 0
   HiddenRun a b = (x : List Sym) × (y : List Sym) × (x ≡ [] → ⊥) × Nullable g x × StepsOnce g (N a ∷ []) (x ++ (N b ∷ y))
 
-  abbrev LeftRun : ℕ → ℕ → Type 0
+  abbrev pub LeftRun : ℕ → ℕ → Type 0
   LeftRun a b = (x : List Sym) × (y : List Sym) × Nullable g x × StepsOnce g (N a ∷ []) (x ++ (N b ∷ y))
 
   some_left : (u v : List Sym) → (u ≡ [] → ⊥) → u ++ v ≡ [] → ⊥

@@ -1,5 +1,5 @@
 -- The loops that make the base and the edges of FIRST.
-use Rattle.std.proofs.Common.{◌≡◌, ℕ, zero, suc, ◌+◌, ◌<◌, ◌≤◌, false, ◌⊎◌, inl, inr, List, [], ◌∷◌, ◌++◌, length, All, sym, ◌∙◌, ap, arith, slice_get, Some}
+use Rattle.std.proofs.Common.{◌≡◌, ℕ, zero, suc, ◌+◌, ◌<◌, ◌≤◌, false, ◌⊎◌, inl, inr, List, [], ◌∷◌, ◌++◌, length, All, sym, ◌∙◌, ap, arith, slice_get, Some, get_or}
 use Rattle.std.proofs.lemmas.Option.{slice_get_within}
 use Rattle.std.proofs.lemmas.List.{length_push}
 use Rattle.std.proofs.lemmas.List.Elements.{All-push}
@@ -142,16 +142,20 @@ base_all parts count width k base so_far all = record {
   all = λ n t (j, is). so_far.all j n t (omega (arith, slice_get_within parts j _ is)) is;
 }
 
+-- symbols of the grammar are below its counts
+pub below_symbol : (g : Cfg) (s : Sym) → IsSymbol g s → IsBelow g.nonterminals (g.terminals + 1) s
+below_symbol g (T t) lt = omega arith
+below_symbol g (N n) lt = lt
+
+pub below_symbols : (g : Cfg) (u : List Sym) → All (IsSymbol g) u → All (IsBelow g.nonterminals (g.terminals + 1)) u
+below_symbols g u all = λ k d lt. below_symbol g (get_or u k d) (all k d lt)
+
 -- what can stand first in a grammar's rules is the grammar's
 pub parts_in_range : (g : Cfg) (null : BitSet) (parts : List Part) → IsGrammar g → AreLeftParts g null parts → AreInRange g.nonterminals (g.terminals + 1) parts
 parts_in_range g null parts is are p at =
     let part = are.only p at in
     let all = symbols_of_rule g is part.number p.left (part.before ++ (p.symbol ∷ part.after)) part.is_rule in
-    (left_of_rule g is part.number p.left (part.before ++ (p.symbol ∷ part.after)) part.is_rule, below p.symbol (symbols_right g part.before (p.symbol ∷ part.after) all).0)
-  where
-    below : (s : Sym) → IsSymbol g s → IsBelow g.nonterminals (g.terminals + 1) s
-    below (T t) lt = omega arith
-    below (N n) lt = lt
+    (left_of_rule g is part.number p.left (part.before ++ (p.symbol ∷ part.after)) part.is_rule, below_symbol g p.symbol (symbols_right g part.before (p.symbol ∷ part.after) all).0)
 
 -- rows made from the parts are FIRST
 module _ (g : Cfg) (null : BitSet) (is : IsGrammar g) (nullable_is : AreMakers false g null) (productive : (n : ℕ) → n < g.nonterminals → Productive g n)

@@ -13,7 +13,7 @@ use Rattle.cfg_model.specs.Searches.{IsLeast}
 use Rattle.cfg_model.specs.Rows.{In, AreRows}
 use Rattle.cfg_model.specs.within.Spreading.{IsEdge, here}
 use Rattle.cfg_model.specs.within.Parts.{LeftPart, AreLeftParts, IsAddedAt, AreFirstEdges}
-use Rattle.cfg_model.specs.within.Runs.{AreEdgeRows, AreRuns, AreMet}
+use Rattle.cfg_model.specs.within.Runs.{AreLeftEdges, AreEdgeRows, AreRuns, AreMet}
 use Rattle.cfg_model.proofs.FirstSets.{spread_on}
 use Rattle.cfg_model.proofs.LeftPaths.{recursive_of_row, row_of_recursive}
 
@@ -58,21 +58,28 @@ edge_rows_all edges count k rows so_far all = record {
   all = λ n m (j, is). so_far.all j n m (omega (arith, slice_get_within edges j _ is)) is;
 }
 
-module _ (g : Cfg) (null : BitSet) (nullable_is : AreMakers false g null) (parts : List Part) (edges : List Edge) (rows : List BitSet)
-    (are : AreLeftParts g null parts) (edges_are : AreFirstEdges g.nonterminals parts edges) (runs : AreRuns g.nonterminals edges rows) where
-  edge_is : (a b : ℕ) → IsEdge edges a b → LeftPart g null b (N a)
-  edge_is a b edge = are.only (as_part b (N a)) (edges_are.only a b edge)
+pub left_edges_are : (g : Cfg) (null : BitSet) (parts : List Part) (edges : List Edge) → AreLeftParts g null parts → AreFirstEdges g.nonterminals parts edges → AreLeftEdges g null edges
+left_edges_are g null parts edges are edges_are = record {
+  inside = edges_are.inside;
+  only = λ a b edge. are.only (as_part b (N a)) (edges_are.only a b edge);
+  all = λ a b part. edges_are.all a b (are.all b (N a) part);
+}
 
-  edge_all : (a b : ℕ) → LeftPart g null b (N a) → IsEdge edges a b
-  edge_all a b part = edges_are.all a b (are.all b (N a) part)
+module _ (g : Cfg) (null : BitSet) (nullable_is : AreMakers false g null) (edges : List Edge) (rows : List BitSet)
+    (are : AreLeftEdges g null edges) (runs : AreRuns g.nonterminals edges rows) where
+  base_is : (n m : ℕ) → In runs.base n m → LeftPart g null n (N m)
+  base_is n m has = are.only m n (runs.base_are.only n m has)
+
+  base_all : (n m : ℕ) → LeftPart g null n (N m) → In runs.base n m
+  base_all n m part = runs.base_are.all n m (are.all m n part)
 
   pub are_met : AreMet g null rows
   are_met = record {
     are = runs.are;
-    part = λ n m part. runs.spread_are.all n n m here (runs.base_are.all n m (edge_all m n part));
-    down = λ n m t part has. spread_on edges runs.base rows runs.spread_are m n t (edge_all m n part) has;
-    recursive = recursive_of_row g null nullable_is edges runs.base rows (λ n m has. edge_is m n (runs.base_are.only n m has)) (λ n m part. runs.base_are.all n m (edge_all m n part)) edge_is edge_all runs.spread_are;
-    all = row_of_recursive g null nullable_is edges runs.base rows (λ n m has. edge_is m n (runs.base_are.only n m has)) (λ n m part. runs.base_are.all n m (edge_all m n part)) edge_is edge_all runs.spread_are;
+    part = λ n m part. runs.spread_are.all n n m here (base_all n m part);
+    down = λ n m t part has. spread_on edges runs.base rows runs.spread_are m n t (are.all m n part) has;
+    recursive = recursive_of_row g null nullable_is edges runs.base rows base_is base_all are.only are.all runs.spread_are;
+    all = row_of_recursive g null nullable_is edges runs.base rows base_is base_all are.only are.all runs.spread_are;
   }
 
 -- the least number of the same set

@@ -2,24 +2,25 @@
 use Rattle.std.proofs.Common.{◌≡◌, ℕ, ◌+◌, ◌<◌, ◌≤◌, ◌↔◌, ◌⊎◌, inl, inr, false, Bool, IsTrue, List, [], ◌∷◌, ◌++◌, length, All, refl, sym, ap, subst, arith, slice_get, Some}
 use Rattle.std.proofs.lemmas.Option.{slice_get_within}
 use Rattle.std.proofs.lemmas.Bool.{cases_eq}
-use Rattle.ck_base.specs.BitSet.{BitSet, Has}
+use Rattle.ck_base.specs.BitSet.{BitSet, Has, Adds}
 use Rattle.cfg_model.specs.declared.symbol.Sym.{Sym}
 use Rattle.cfg_model.specs.declared.symbol.Sym.TheVariants.{T, N}
 use Rattle.cfg_model.specs.declared.rows.Edge.{Edge}
-use Rattle.cfg_model.specs.Cfg.{Cfg, Rule, IsRule, IsGrammar}
-use Rattle.cfg_model.specs.Sets.{First, Follow, Productive}
+use Rattle.cfg_model.specs.Cfg.{Cfg, Rule, IsRule, IsSymbol, IsGrammar}
+use Rattle.cfg_model.specs.Sets.{Nullable, First, Follow, Productive, AllProductive}
 use Rattle.cfg_model.specs.within.Closing.{AllPass, AreMakers}
 use Rattle.cfg_model.specs.Steps.{Steps, none}
 use Rattle.cfg_model.specs.Derivation.{Forest, yield, Derive, nothing}
 use Rattle.cfg_model.specs.within.Parts.{Begins}
-use Rattle.cfg_model.specs.Rows.{In}
+use Rattle.cfg_model.specs.Rows.{In, IsSetOf, AreRowsOf}
 use Rattle.cfg_model.specs.within.Spreading.{IsInside, IsEdge, Leads, here, on, AreSpread}
 use Rattle.cfg_model.specs.within.FollowParts.{FollowBase, the_end, behind, FollowEdge}
-use Rattle.cfg_model.specs.within.Gather.{Gathers, Behind, AreReachable}
+use Rattle.cfg_model.specs.within.Gather.{Gathers, Behind}
+use Rattle.cfg_model.specs.Promise.{AreReachable}
 use Rattle.cfg_model.specs.within.Trailers.{JoinsRows, Fronted, IsAhead, StandsIn, BeginsBehind, VanishBehind, AreBehind}
 use Rattle.cfg_model.proofs.Forests.{Gives, gives_of_steps, steps_both}
 use Rattle.cfg_model.proofs.Gathering.{all_of_at, gathers_then, gathers_same, behind_cut, behind_there}
-use Rattle.cfg_model.proofs.InRange.{AreSymbols, symbols_of_rule, symbols_right, left_of_rule}
+use Rattle.cfg_model.proofs.InRange.{AreSymbols, symbols_from, symbols_of_rule, symbols_right, left_of_rule}
 use Rattle.cfg_model.proofs.FirstSets.{first_before, spread_on}
 use Rattle.cfg_model.proofs.LeftPaths.{pass_nullable, no_word}
 use Rattle.cfg_model.proofs.Makers.{makes_passing}
@@ -239,3 +240,22 @@ module _ (g : Cfg) (null : BitSet) (is : IsGrammar g) (nullable_is : AreMakers f
       let s = are.only e.from e.to at in
       let (x, y, whole, _) = behind_cut (AllPass false (Has null)) s.right e.to s.stands in
       (left_of_rule g is s.number e.from s.right s.is_rule, (symbols_right g x (N e.to ∷ y) (rw whole at (symbols_of_rule g is s.number e.from s.right s.is_rule))).0))
+
+-- what a list begins with by rows that are FIRST
+module _ (g : Cfg) (null : BitSet) (is : IsGrammar g) (null_is : IsSetOf g.nonterminals (λ n. Nullable g (N n ∷ [])) null) (productive : AllProductive g)
+    (firsts : List BitSet) (firsts_are : AreRowsOf g.nonterminals (g.terminals + 1) (λ n. First g (N n ∷ [])) firsts) where
+  pub begins_are_first : (u : List Sym) (old new : BitSet) → All (IsSymbol g) u → Adds old new (Begins firsts null u) → Adds old new (First g u)
+  begins_are_first u old new symbols adds = record {
+    size = adds.size;
+    only = λ t has. elim (adds.only t has) [
+      | inl was ↦ inl was
+      | inr begins ↦ inr (list_first g null is null_is productive firsts firsts_are.only firsts_are.all u t (symbols_from g u symbols) begins)
+    ];
+    kept = adds.kept;
+    more = λ t first. adds.more t (first_list g null is null_is productive firsts firsts_are.only firsts_are.all u t first);
+  }
+
+pub passes_are_nullable : (g : Cfg) (null : BitSet) → IsSetOf g.nonterminals (λ n. Nullable g (N n ∷ [])) null → (u : List Sym) (vanish : Bool)
+    → IsTrue vanish ↔ AllPass false (Has null) u → IsTrue vanish ↔ Nullable g u
+passes_are_nullable g null null_is u vanish is =
+    (λ flag. makes_passing g false (Has null) null_is.only u (is.0 flag), λ nullable. is.1 (pass_nullable g null null_is u nullable))

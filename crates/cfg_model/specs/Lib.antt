@@ -3,8 +3,10 @@ pub mod Cores
 pub mod Derivation
 pub mod Items
 pub mod LalrConflicts
+pub mod LeftRanks
 pub mod LlConflicts
 pub mod LlTables
+pub mod Promise
 pub mod Rows
 pub mod Searches
 pub mod Sets

@@ -1,9 +1,9 @@
 -- LL tables: the grammars that have one, what it answers, and why a parse by it ends.
-use Rattle.std.specs.Prelude.{◌≡◌, ℕ, ◌<◌, ◌≤◌, Bool, IsTrue, List, [], ◌∷◌, Option, MatchOption, length, max}
+use Rattle.std.specs.Prelude.{◌≡◌, ℕ, ◌<◌, ◌≤◌, Bool, IsTrue, List, [], ◌∷◌, Option, MatchOption, length}
 use Rattle.ck_base.specs.Found.{HasNo}
 use Rattle.cfg_model.specs.declared.symbol.Sym.{Sym}
 use Rattle.cfg_model.specs.declared.symbol.Sym.TheVariants.{T, N}
-use Rattle.cfg_model.specs.Cfg.{Cfg, Rule, IsRule, IsGrammar}
+use Rattle.cfg_model.specs.Cfg.{Cfg, IsRule, IsGrammar}
 use Rattle.cfg_model.specs.Sets.{Reachable, AllProductive}
 use Rattle.cfg_model.specs.Searches.{LeftRecursive}
 use Rattle.cfg_model.specs.LlConflicts.{Predicts, LlConflict}
@@ -30,11 +30,6 @@ pub record Falling : Type 0 where
   pub rank : ℕ → ℕ
   pub vanishes : ℕ → Bool
   pub longest : ℕ
-
--- the length of the longest right side
-abbrev pub longest_right : List Rule → ℕ
-longest_right [] = 0
-longest_right (one ∷ rules) = max (length one.right) (longest_right rules)
 
 -- the nonterminals of the list up to the first symbol that doesn't vanish have smaller ranks
 abbrev pub Falls : Falling → ℕ → List Sym → Type 0

@@ -2,6 +2,7 @@
 pub mod Closing
 pub mod FollowParts
 pub mod Gather
+pub mod Hiding
 pub mod Middles
 pub mod Missing
 pub mod Parts

@@ -1,7 +1,7 @@
 ghost use Rattle.std.specs.Prelude.{◌≡◌, ◌↔◌, ◌<◌, true, false, ℕ, [], ◌∷◌, IfOk, IsTrue};
 ghost use Rattle.ck_base.specs.BitSet.{Has, Grew};
 ghost use Rattle.cfg_model.specs.Cfg.{IsGrammar};
-ghost use Rattle.cfg_model.specs.Rows.{IsSetOf};
+ghost use Rattle.cfg_model.specs.Promise.{AreNullable, AreProductive};
 ghost use Rattle.cfg_model.specs.Sets.{Nullable, Productive};
 ghost use Rattle.cfg_model.specs.declared.symbol.Sym.TheVariants.{N};
 ghost use Rattle.cfg_model.specs.within.Closing.{AllPass, Passes, IsSound, IsClosed, AreMakers, IsAdded};
@@ -14,7 +14,7 @@ use std::alloc::Global;
 /// The nonterminals that derive the empty word.
 pub fn nullable(alloc: Global, g: &Grammar) -> Result<Bits, NoMemory>
     requires { IsGrammar g.now }
-    ensures { IfOk result (IsSetOf g.now.nonterminals (λ n. Nullable g.now (N n ∷ []))) }
+    ensures { IfOk result (AreNullable g.now) }
 {
     makers(alloc, g, false)
 }
@@ -22,7 +22,7 @@ pub fn nullable(alloc: Global, g: &Grammar) -> Result<Bits, NoMemory>
 /// The nonterminals that derive a word.
 pub fn productive(alloc: Global, g: &Grammar) -> Result<Bits, NoMemory>
     requires { IsGrammar g.now }
-    ensures { IfOk result (IsSetOf g.now.nonterminals (Productive g.now)) }
+    ensures { IfOk result (AreProductive g.now) }
 {
     makers(alloc, g, true)
 }

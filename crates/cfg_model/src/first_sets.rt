@@ -2,7 +2,8 @@ ghost use Rattle.std.specs.Prelude.{◌≡◌, ◌↔◌, ◌<◌, ◌≤◌, �
 ghost use Rattle.ck_base.specs.BitSet.{Has};
 ghost use Rattle.cfg_model.specs.declared.symbol.Sym.TheVariants.{T, N};
 ghost use Rattle.cfg_model.specs.Cfg.{IsGrammar};
-ghost use Rattle.cfg_model.specs.Sets.{First, Productive};
+ghost use Rattle.cfg_model.specs.Sets.{First, AllProductive};
+ghost use Rattle.cfg_model.specs.Promise.{AreFirsts};
 ghost use Rattle.cfg_model.specs.Rows.{In, AreRows};
 ghost use Rattle.cfg_model.specs.within.Spreading.{IsInside, IsEdge};
 ghost use Rattle.cfg_model.specs.within.Parts.{At, AreInRange, IsAddedAt, AreFirstBase, AreFirstEdges};
@@ -18,10 +19,8 @@ use std::alloc::Global;
 /// FIRST of each nonterminal.
 pub fn first(alloc: Global, g: &Grammar) -> Result<Vec<Bits>, NoMemory>
     requires grammar { IsGrammar g.now }
-    requires productive { (n : ℕ) → n < g.now.nonterminals → Productive g.now n }
-    ensures rows { IfOk result (λ rows. AreRows g.now.nonterminals (g.now.terminals + 1) rows.items) }
-    ensures only { IfOk result (λ rows. (n t : ℕ) → In rows.items n t → First g.now (N n ∷ []) t) }
-    ensures all { IfOk result (λ rows. (n t : ℕ) → First g.now (N n ∷ []) t → In rows.items n t) }
+    requires productive { AllProductive g.now }
+    ensures { IfOk result (λ rows. AreFirsts g.now rows.items) }
 {
     let null = nullable(alloc, g)?;
     let parts = left_parts(alloc, g, &null)?;

@@ -3,8 +3,9 @@ ghost use Rattle.ck_base.specs.BitSet.{Has};
 ghost use Rattle.cfg_model.specs.declared.symbol.Sym.TheVariants.{N};
 ghost use Rattle.cfg_model.specs.Cfg.{IsGrammar};
 ghost use Rattle.cfg_model.specs.within.Closing.{Passes};
-ghost use Rattle.cfg_model.specs.Sets.{Follow, Productive};
-ghost use Rattle.cfg_model.specs.Rows.{In, AreRows};
+ghost use Rattle.cfg_model.specs.Sets.{Follow, AllProductive};
+ghost use Rattle.cfg_model.specs.Promise.{AreFollows};
+ghost use Rattle.cfg_model.specs.Rows.{AreRows};
 ghost use Rattle.cfg_model.specs.within.Parts.{IsBelow};
 ghost use Rattle.cfg_model.specs.within.Gather.{Gathers};
 ghost use Rattle.cfg_model.specs.within.Trailers.{JoinsRows, Fronted, IsAhead, BeginsBehind, VanishBehind, AreBehind};
@@ -21,10 +22,8 @@ use std::alloc::Global;
 /// FOLLOW of each nonterminal.
 pub fn follow(alloc: Global, g: &Grammar) -> Result<Vec<Bits>, NoMemory>
     requires grammar { IsGrammar g.now }
-    requires productive { (n : ℕ) → n < g.now.nonterminals → Productive g.now n }
-    ensures rows { IfOk result (λ rows. AreRows g.now.nonterminals (g.now.terminals + 1) rows.items) }
-    ensures only { IfOk result (λ rows. (n t : ℕ) → In rows.items n t → Follow g.now n t) }
-    ensures all { IfOk result (λ rows. (n t : ℕ) → Follow g.now n t → In rows.items n t) }
+    requires productive { AllProductive g.now }
+    ensures { IfOk result (λ rows. AreFollows g.now rows.items) }
 {
     let null = nullable(alloc, g)?;
     let firsts = first(alloc, g)?;

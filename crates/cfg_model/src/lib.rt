@@ -4,8 +4,13 @@
 //! |---|---|
 //! | grammars; a grammar with its names | `src/symbol.rt`, `src/grammar.rt`, `src/named.rt`; `specs/Cfg.antt` |
 //! | derivations, sentences, what can still become one; derive steps | `specs/Derivation.antt`, `specs/Steps.antt` |
-//! | nullable, productive, reachable, FIRST, FOLLOW | `specs/Sets.antt`; sets as answers: `specs/Rows.antt` |
+//! | the sets of a grammar; what the calls that find them give | `specs/Sets.antt`; `specs/Promise.antt` |
+//! | nullable, productive; reachable | `src/closing.rt`, `proofs/Makers.antt`; `src/reach.rt` |
+//! | FIRST; FOLLOW | `src/first_sets.rt`, `proofs/FirstSets.antt`; `src/follow_sets.rt`, `proofs/FollowSets.antt` |
 //! | cyclic, hidden left recursive, left recursive; the least one | `specs/Searches.antt` |
+//! | the same, found | `src/looping.rt`, `src/hiding.rt`, `src/met.rt`; `src/least.rt` |
+//! | the same, proved | `proofs/Cycles.antt`, `proofs/HiddenRows.antt`, `proofs/LeftPaths.antt` |
+//! | sets that spread along edges; numbers that fall | `src/rows.rt`; `src/left_ranks.rt` |
 //! | LL(1) conflicts; LL tables | `specs/LlConflicts.antt`; `src/ll_table.rt`, `specs/LlTables.antt` |
 //! | valid items, cores, united lookaheads; their laws | `specs/Valid.antt`; `src/lalr_laws.rt` |
 //! | the numbering of cores; LALR conflicts | `specs/Cores.antt`; `specs/LalrConflicts.antt` |
@@ -21,9 +26,11 @@ mod counting;
 mod first_sets;
 mod follow_sets;
 mod grammar;
+mod hiding;
 mod items;
 mod lalr_laws;
 mod least;
+mod left_ranks;
 mod ll_table;
 mod looping;
 mod met;
@@ -36,22 +43,21 @@ mod symbol;
 mod table;
 
 pub use action::LrAction;
-pub use begins::add_begins;
+pub use begins::add_first;
 pub use closing::{nullable, productive};
 pub use copying::copy_grammar;
-pub use counting::members;
 pub use first_sets::first;
 pub use follow_sets::follow;
 pub use grammar::{Grammar, GrammarRule};
+pub use hiding::hidden_left;
 pub use lalr_laws::{cores_are_viable, lookaheads_spread, rule_0_has_no_conflict};
-pub use least::{least_in_own_row, unproductive};
+pub use least::unproductive;
+pub use left_ranks::{LeftRanks, ranks};
 pub use ll_table::LlTable;
 pub use looping::cyclic;
-pub use met::{left_recursive, met_first};
+pub use met::left_recursive;
 pub use named::NamedGrammar;
-pub use parts::{Part, left_parts};
 pub use reach::reachable;
 pub use refused::LalrError;
-pub use rows::{Edge, spread};
 pub use symbol::Sym;
 pub use table::LrTable;

@@ -6,7 +6,7 @@ ghost use Rattle.cfg_model.specs.Rows.{In, AreRows};
 ghost use Rattle.cfg_model.specs.within.Spreading.{IsInside};
 ghost use Rattle.cfg_model.specs.Sets.{Reachable};
 ghost use Rattle.cfg_model.specs.Searches.{LeftRecursive, IsLeast};
-ghost use Rattle.cfg_model.specs.within.Runs.{AreEdgeRows, AreRuns, AreMet};
+ghost use Rattle.cfg_model.specs.within.Runs.{AreLeftEdges, AreEdgeRows, AreRuns, AreMet};
 
 use crate::closing::nullable;
 use crate::first_sets::{add_at, empty_rows, first_edges};
@@ -31,16 +31,24 @@ pub fn left_recursive(alloc: Global, g: &Grammar) -> Result<Option<u32>, NoMemor
 }
 
 /// For each nonterminal those that can be met first from it.
-pub fn met_first(alloc: Global, g: &Grammar, null: &Bits) -> Result<Vec<Bits>, NoMemory>
+pub(crate) fn met_first(alloc: Global, g: &Grammar, null: &Bits) -> Result<Vec<Bits>, NoMemory>
     requires grammar { IsGrammar g.now }
     requires null { AreMakers false g.now null.now }
     ensures { IfOk result (λ rows. AreMet g.now null.now rows.items) }
 {
-    let parts = left_parts(alloc, g, null)?;
-    let count = g.nonterminals;
-    let edges = first_edges(alloc, &parts, count)?;
-    let rows = run_rows(alloc, &edges, count)?;
+    let edges = left_edges(alloc, g, null)?;
+    let rows = run_rows(alloc, &edges, g.nonterminals)?;
     Ok(rows)
+}
+
+/// An edge from each nonterminal that can stand first in a right side to its left side.
+pub(crate) fn left_edges(alloc: Global, g: &Grammar, null: &Bits) -> Result<Vec<Edge>, NoMemory>
+    requires { IsGrammar g.now }
+    ensures { IfOk result (λ edges. AreLeftEdges g.now null.now edges.items) }
+{
+    let parts = left_parts(alloc, g, null)?;
+    let edges = first_edges(alloc, &parts, g.nonterminals)?;
+    Ok(edges)
 }
 
 /// For each number those from which one or more edges lead to it.

@@ -2,7 +2,7 @@ ghost use Rattle.std.specs.Prelude.{◌≡◌, ◌↔◌, ℕ, IfOk};
 ghost use Rattle.ck_base.specs.BitSet.{Has};
 ghost use Rattle.cfg_model.specs.Cfg.{IsGrammar};
 ghost use Rattle.cfg_model.specs.Rows.{In, AreRows};
-ghost use Rattle.cfg_model.specs.Rows.{IsSetOf};
+ghost use Rattle.cfg_model.specs.Promise.{AreReachable};
 ghost use Rattle.cfg_model.specs.Sets.{Reachable};
 ghost use Rattle.cfg_model.specs.within.Gather.{Gathers, IsDown, AreDown};
 
@@ -16,7 +16,7 @@ use std::alloc::Global;
 /// The nonterminals that stand in a list derived from the start symbol.
 pub fn reachable(alloc: Global, g: &Grammar) -> Result<Bits, NoMemory>
     requires { IsGrammar g.now }
-    ensures { IfOk result (IsSetOf g.now.nonterminals (Reachable g.now)) }
+    ensures { IfOk result (AreReachable g.now) }
 {
     let count = g.nonterminals;
     let edges = down_edges(alloc, g)?;

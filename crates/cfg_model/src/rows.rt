@@ -63,7 +63,7 @@ fn hand_on(before: &mut Bits, grown: &mut Bits)
     grown.clear();
 }
 
-/// Lets the rows spread along each edge once that comes from a row that grew, and says whether one grew.
+/// Lets the rows spread along each edge once that comes from a row that grew; says whether one grew.
 fn spread_once(
     rows: &mut Vec<Bits>,
     edges: &[Edge],

@@ -1,12 +1,9 @@
 -- Lists that gather what a loop meets, and what stands in a right side with a rest behind it.
 use Rattle.std.specs.Prelude.{◌≡◌, ℕ, ◌⊎◌, ◌<◌, List, [], ◌∷◌, slice_get, Some}
-use Rattle.ck_base.specs.BitSet.{BitSet}
 use Rattle.cfg_model.specs.declared.symbol.Sym.{Sym}
 use Rattle.cfg_model.specs.declared.symbol.Sym.TheVariants.{T, N}
 use Rattle.cfg_model.specs.declared.rows.Edge.{Edge}
 use Rattle.cfg_model.specs.Cfg.{Cfg, IsRule}
-use Rattle.cfg_model.specs.Sets.{Reachable}
-use Rattle.cfg_model.specs.Rows.{IsSetOf}
 use Rattle.cfg_model.specs.within.Parts.{At}
 
 -- the new list has the old one's elements and those of which P holds
@@ -37,7 +34,3 @@ pub record IsDownBefore (g : Cfg) (i : ℕ) (e : Edge) : Type 0 where
 pub record AreDown (g : Cfg) (edges : List Edge) : Type 0 where
   pub only : (e : Edge) → At edges e → (r : ℕ) × (w : List Sym) × IsRule g r e.from w × Behind (λ _. Unit {0}) w e.to
   pub all : (r a b : ℕ) (w : List Sym) → IsRule g r a w → Behind (λ _. Unit {0}) w b → At edges (record { from = a; to = b })
-
--- the set has the reachable nonterminals
-abbrev pub AreReachable : Cfg → BitSet → Type 0
-AreReachable g = IsSetOf g.nonterminals (Reachable g)

@@ -1,13 +1,19 @@
 -- Rows of what leads to a number, and what can be met first.
-use Rattle.std.specs.Prelude.{ℕ, List}
+use Rattle.std.specs.Prelude.{ℕ, List, All}
 use Rattle.ck_base.specs.BitSet.{BitSet}
 use Rattle.cfg_model.specs.declared.symbol.Sym.TheVariants.{N}
 use Rattle.cfg_model.specs.declared.rows.Edge.{Edge}
 use Rattle.cfg_model.specs.Cfg.{Cfg}
 use Rattle.cfg_model.specs.Searches.{LeftRecursive}
 use Rattle.cfg_model.specs.Rows.{In, AreRows}
-use Rattle.cfg_model.specs.within.Spreading.{IsEdge, AreSpread}
+use Rattle.cfg_model.specs.within.Spreading.{IsInside, IsEdge, AreSpread}
 use Rattle.cfg_model.specs.within.Parts.{LeftPart}
+
+-- the edges lead from each nonterminal that can stand first in a right side to its left side
+pub record AreLeftEdges (g : Cfg) (null : BitSet) (edges : List Edge) : Type 0 where
+  pub inside : All (IsInside g.nonterminals) edges
+  pub only : (a b : ℕ) → IsEdge edges a b → LeftPart g null b (N a)
+  pub all : (a b : ℕ) → LeftPart g null b (N a) → IsEdge edges a b
 
 -- one edge leads from m to n exactly where m is in row n
 pub record AreEdgeRows (count : ℕ) (edges : List Edge) (rows : List BitSet) : Type 0 where
@@ -22,7 +28,7 @@ pub record AreRuns (count : ℕ) (edges : List Edge) (rows : List BitSet) : Type
   pub base_are : AreEdgeRows count edges base
   pub spread_are : AreSpread edges base rows
 
--- m is in row n exactly where m can be met first from n; as far as other crates need it
+-- m is in row n exactly where m can be met first from n
 pub record AreMet (g : Cfg) (null : BitSet) (rows : List BitSet) : Type 0 where
   pub are : AreRows g.nonterminals g.nonterminals rows
   pub part : (n m : ℕ) → LeftPart g null n (N m) → In rows n m

@@ -1,7 +1,7 @@
 -- One number more, and all of them.
 use Rattle.std.proofs.Common.{◌≡◌, ◌<◌, arith}
 use Rattle.cfg_model.specs.within.Missing.{missing}
-use Rattle.cfg_model.proofs.Ranks.{zeros_more}
+use Rattle.cfg_model.proofs.RanksFall.{zeros_more}
 use Rattle.cfg_model.proofs.counting.members.Goals as goal
 use Rattle.cfg_model.proofs.counting.members.Goals.{then-has, else-has}
 

@@ -1,18 +1,16 @@
--- The edges are those of first parts.
-use Rattle.std.proofs.Common.{◌≡◌, ◌+◌, ap}
+-- The rows run along the edges.
+use Rattle.std.proofs.Common.{◌≡◌, ap}
 use Rattle.cfg_model.specs.Cfg.{Cfg}
-use Rattle.cfg_model.proofs.FirstLoops.{parts_in_range}
 use Rattle.cfg_model.proofs.Running.{are_met}
 use Rattle.cfg_model.proofs.met.met_first.Goals as goal
 
-pub first_edges-requires : goal.first_edges-requires
-first_edges-requires c =
+pub run_rows-requires : goal.run_rows-requires
+run_rows-requires c =
     let count : c.g.inside.nonterminals ≡ c.args.g.now.nonterminals = ap (λ (g : Cfg). g.nonterminals) c.g.view_is in
-    let range = parts_in_range c.args.g.now c.args.null.now c.in_ok-parts.parts.items c.requires.grammar c.in_ok-parts.ensures in
-    (c.args.g.now.terminals + 1, rw (count, c.deref.ensures.value) range)
+    rw (count, c.deref.ensures.value) c.in_ok-edges.ensures.inside
 
 pub returns : goal.returns
 returns c =
     let count : c.g.inside.nonterminals ≡ c.args.g.now.nonterminals = ap (λ (g : Cfg). g.nonterminals) c.g.view_is in
-    are_met c.args.g.now c.args.null.now c.requires.null c.in_ok-parts.parts.items c.in_ok-edges.edges.items c.in_ok-rows.rows.items c.in_ok-parts.ensures
-    (rw (count, c.deref.ensures.value) at c.in_ok-edges.ensures) (rw (count, c.deref-2.ensures.value) at c.in_ok-rows.ensures)
+    are_met c.args.g.now c.args.null.now c.requires.null c.in_ok-edges.edges.items c.in_ok-rows.rows.items c.in_ok-edges.ensures
+    (rw (count, c.deref.ensures.value) at c.in_ok-rows.ensures)

@@ -1,6 +1,7 @@
 -- Numbers that fall from a left side to what can stand first in its right side.
-use Rattle.std.proofs.Common.{◌≡◌, ℕ, zero, suc, ◌+◌, ◌-◌, ◌<◌, ◌≤◌, false, IsTrue, inl, inr, List, [], ◌∷◌, ◌++◌, length, refl, sym, ◌∙◌, append_assoc, arith, slice_get, Some, add-one, slice_index, ◌/◌, ◌%◌}
-use Rattle.std.proofs.lemmas.Option.{slice_get_within}
+use Rattle.std.proofs.Common.{◌≡◌, ℕ, zero, suc, ◌+◌, ◌-◌, ◌<◌, ◌≤◌, false, IsTrue, inl, inr, List, [], ◌∷◌, ◌++◌, length, All, refl, sym, ◌∙◌, append_assoc, arith, add-one, slice_index, ◌/◌, ◌%◌}
+use Rattle.std.proofs.lemmas.Option.{slice_get_within, get_or_from_slice_get}
+use Rattle.std.proofs.lemmas.List.Elements.{All-get_or}
 use Rattle.ck_base.specs.BitSet.{BitSet, Has}
 use Rattle.cfg_model.specs.declared.symbol.Sym.{Sym}
 use Rattle.cfg_model.specs.declared.symbol.Sym.TheVariants.{T, N}
@@ -11,7 +12,7 @@ use Rattle.cfg_model.specs.within.Closing.{AllPass, AreMakers}
 use Rattle.cfg_model.specs.within.Missing.{missing, zeros, bit_of}
 use Rattle.cfg_model.specs.Rows.{row, In}
 use Rattle.cfg_model.specs.within.Parts.{LeftPart}
-use Rattle.cfg_model.specs.LlTables.{longest_right, Falling, Falls, AllVanish, IsFalling}
+use Rattle.cfg_model.specs.LlTables.{Falling, Falls, AllVanish, IsFalling}
 use Rattle.cfg_model.proofs.Makers.{makes_passing, makes_by_rule}
 use Rattle.cfg_model.proofs.Missing.{missing_falls_more, one_of_bit, bit_of_one}
 use Rattle.std.proofs.lemmas.Nat.Bits.{bit_at-lt}
@@ -25,10 +26,12 @@ pub missing_most : (set : BitSet) → missing set ≤ set.size
 unfolding missing
 missing_most set = zeros_most (bit_of set) set.size
 
-pub right_fits : (rules : List Rule) (i : ℕ) (one : Rule) → slice_get rules i ≡ Some one → length one.right ≤ longest_right rules
-right_fits [] i one is = absurd (let lt = slice_get_within {A = Rule} [] i one is in omega arith)
-right_fits (x ∷ rules) zero one is = let same : x ≡ one = cc in rw same (omega arith)
-right_fits (x ∷ rules) (suc i) one is = let rest = right_fits rules i one is in omega arith
+-- the right side of a rule is no longer than the longest
+pub rule_fits : (g : Cfg) (longest : ℕ) → All (λ (one : Rule). length one.right ≤ longest) g.rules → (r n : ℕ) (w : List Sym) → IsRule g r n w → length w ≤ longest
+rule_fits g longest all r n w is =
+    let one : Rule = record { left = n; right = w } in
+    let there = All-get_or (λ (x : Rule). length x.right ≤ longest) g.rules is.place one (slice_get_within g.rules is.place one is.read) all in
+    rw (get_or_from_slice_get g.rules is.place one one is.read) at there
 
 module _ (g : Cfg) (null : BitSet) (nullable_is : AreMakers false g null) (rows : List BitSet)
     (sizes : (n : ℕ) → n < g.nonterminals → (row rows n).size ≡ g.nonterminals) (range : (n : ℕ) → Reachable g n → n < g.nonterminals)
@@ -37,7 +40,7 @@ module _ (g : Cfg) (null : BitSet) (nullable_is : AreMakers false g null) (rows 
     (none_is : (n : ℕ) → Reachable g n → In rows n n → ⊥)
     (m : Falling) (rank_is : (n : ℕ) → n < g.nonterminals → m.rank n + missing (row rows n) ≡ g.nonterminals)
     (vanish_is : (n : ℕ) → IsTrue (m.vanishes n) → Has null n) (vanish_all : (n : ℕ) → Has null n → IsTrue (m.vanishes n))
-    (longest_is : m.longest ≡ longest_right g.rules) where
+    (fits : (r n : ℕ) (w : List Sym) → IsRule g r n w → length w ≤ m.longest) where
   part_reachable : (n m : ℕ) → Reachable g n → LeftPart g null n (N m) → Reachable g m
   part_reachable n m (x, y, steps) part =
       let next = more (x ++ (N n ∷ y)) (x ++ ((part.before ++ (N m ∷ part.after)) ++ y)) steps (step part.number n (part.before ++ (N m ∷ part.after)) x y part.is_rule) in
@@ -75,7 +78,7 @@ module _ (g : Cfg) (null : BitSet) (nullable_is : AreMakers false g null) (rows 
   ranks_fall = record {
     falls = λ r n w is reachable. falls r n [] w reachable tt is;
     closed = λ r n w is all. vanish_all n (nullable_is.all n (makes_by_rule g false r n w is (makes_passing g false (Has null) nullable_is.only w (pass_of_vanish w all))));
-    fits = λ r n w is. rw longest_is (right_fits g.rules is.place (record { left = n; right = w }) is.read);
+    fits = fits;
   }
 
 -- one number more, by whether the set has it

@@ -1,0 +1,20 @@
+//! The LL(1) table of a grammar, or the first reason in order why there is none.
+//!
+//! | what | file |
+//! |---|---|
+//! | the table; what it answers, by one look-up | `src/plain.rt`; `src/asked.rt`, `specs/Table.antt` |
+//! | why there is none | `src/refusal.rt`; `specs/Promise.antt` |
+//! | the table of a grammar; the terminals that a rule is for | `src/making.rt`; `specs/Promise.antt` |
+//! | cells and the least conflict, rule by rule | `src/fill.rt`; `specs/within/Fill.antt` |
+//! | filled cells are the predictions, the least clash is the report | `proofs/Exact.antt` |
+#![tactic(auto)]
+
+mod asked;
+mod fill;
+mod making;
+mod plain;
+mod refusal;
+
+pub use making::build;
+pub use plain::PlainLl;
+pub use refusal::EllError;

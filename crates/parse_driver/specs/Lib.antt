@@ -1,0 +1,4 @@
+pub mod Listed
+pub mod Parse
+pub mod Stream
+pub mod within
