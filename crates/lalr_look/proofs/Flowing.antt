@@ -1,10 +1,10 @@
 -- The invariant of the flow.
-use Rattle.std.proofs.Common.{◌≡◌, ◌≢◌, ℕ, zero, suc, ◌+◌, ◌-◌, ◌*◌, ◌<◌, ◌≤◌, ◌⊎◌, inl, inr, List, [], ◌∷◌, ◌++◌, length, slice_set, arith, refl, sym, ap, ap₂, subst, subst₂, ◌∙◌, Bool, true, false, IsTrue, ◌↔◌, get_or, slice_index_or, slice_get, Some, None, Contains, All, set, length-set, length-append, get_or-set_same, get_or-set_other}
-use Rattle.ck_base.specs.BitSet.{BitSet, Has, Adds, Grew}
+use Rattle.std.proofs.Common.{◌≡◌, ◌≢◌, ℕ, zero, suc, ◌+◌, ◌*◌, ◌<◌, ◌≤◌, ◌⊎◌, inl, inr, List, [], ◌∷◌, ◌++◌, length, arith, refl, sym, ap, subst, subst₂, ◌∙◌, Bool, true, false, ◌↔◌, get_or, slice_index_or, slice_get, Some, Contains, All, length-set, length-append, get_or-set_same, get_or-set_other}
+use Rattle.ck_base.specs.BitSet.{BitSet, Has}
 use Rattle.lalr_look.specs.Flow.{no_set, set_at, JoinedAt, Edge, Flows, own, along, Sent}
 use Rattle.lalr_look.specs.Rows.{rows_of}
 use Rattle.std.proofs.lemmas.List.{get_or-map, length-map, get_or_default}
-use Rattle.std.proofs.Common.{Vec, Global, map}
+use Rattle.std.proofs.Common.{Vec, Global}
 use Rattle.lalr_look.proofs.Holes.{dec_has, holes, joined_le, joined_lt}
 use Rattle.std.proofs.lemmas.List.Elements.{Contains-append_left, Contains-append_right, Contains-append_cases}
 use Rattle.std.proofs.lemmas.Option.{slice_get_within, slice_get-get_or, slice_get_read}
@@ -49,20 +49,28 @@ pub turn_joined : (edges : List (List ℕ)) (start old new : List BitSet) (befor
     → ((a : ℕ) → Has (set_at new m) a → Has (set_at old m) a) ⊎ Contains after m
     → Turning edges start new after n (i + 1)
 turn_joined edges start old new before after n i m b t j edge inside at keeps below news =
-    record { long = (let l = t.long in let one : length new ≡ length old = ap length j.set ∙ length-set old m j.joined in one ∙ l);
-             sizes = (t.sizes.0, λ k low. sizes_new k low);
-             within = within_new; kept = kept_new; nodes = below; settled = settled_new }
+    record {
+      long = (let l = t.long in let one : length new ≡ length old = ap length j.set ∙ length-set old m j.joined in one ∙ l);
+      sizes = (t.sizes.0, λ k low. sizes_new k low);
+      within = within_new;
+      kept = kept_new;
+      nodes = below;
+      settled = settled_new;
+    }
   where
     inside_old : m < length old
     inside_old = let l = t.long in omega (arith, l, inside)
+
     here : set_at new m ≡ j.joined
     here = set_new old new n m b j inside_old
+
     sizes_new : (k : ℕ) → k < length start → (set_at new k).size ≡ t.sizes.0
     sizes_new k low = go (same_or_not k m)
       where
         go : (k ≡ m) ⊎ (k ≢ m) → (set_at new k).size ≡ t.sizes.0
         go (inl e) = ap (λ x. (set_at new x).size) e ∙ (ap (λ s. s.size) here ∙ (j.adds.size ∙ t.sizes.1 m inside))
         go (inr e) = ap (λ s. s.size) (set_other old new n m b j k e) ∙ t.sizes.1 k low
+
     grows : (k a : ℕ) → Has (set_at old k) a → Has (set_at new k) a
     grows k a has = go (same_or_not k m)
       where
@@ -70,23 +78,28 @@ turn_joined edges start old new before after n i m b t j edge inside at keeps be
         go (inl e) = subst (λ x. Has (set_at new x) a) (sym e)
             (subst (λ s. Has s a) (sym here) (j.adds.kept a (subst (λ x. Has (set_at old x) a) e has)))
         go (inr e) = subst (λ s. Has s a) (sym (set_other old new n m b j k e)) has
+
     comes : (k a : ℕ) → Has (set_at new k) a → Has (set_at old k) a ⊎ ((k ≡ m) × Has (set_at old n) a)
     comes k a has = go (same_or_not k m)
       where
         new_or_old : k ≡ m → Has (set_at old m) a ⊎ Has (set_at old n) a → Has (set_at old k) a ⊎ ((k ≡ m) × Has (set_at old n) a)
         new_or_old e (inl h) = inl (subst (λ x. Has (set_at old x) a) (sym e) h)
         new_or_old e (inr h) = inr (e, h)
+
         go : (k ≡ m) ⊎ (k ≢ m) → Has (set_at old k) a ⊎ ((k ≡ m) × Has (set_at old n) a)
         go (inl e) = new_or_old e (j.adds.only a (subst (λ s. Has s a) here (subst (λ x. Has (set_at new x) a) e has)))
         go (inr e) = inl (subst (λ s. Has s a) (set_other old new n m b j k e) has)
+
     within_new : (k a : ℕ) → Has (set_at new k) a → Flows edges start k a
     within_new k a has = go (comes k a has)
       where
         go : Has (set_at old k) a ⊎ ((k ≡ m) × Has (set_at old n) a) → Flows edges start k a
         go (inl h) = t.within k a h
         go (inr (e, h)) = subst (λ x. Flows edges start x a) (sym e) (along n m a (t.within n a h) edge)
+
     kept_new : (k a : ℕ) → Has (set_at start k) a → Has (set_at new k) a
     kept_new k a has = grows k a (t.kept k a has)
+
     turn : (k o a : ℕ) → Has (set_at old k) a → Has (set_at old o) a ⊎ Waits edges before n i k o
         → Has (set_at new o) a ⊎ Waits edges after n (i + 1) k o
     turn k o a has (inl h) = inl (grows o a h)
@@ -99,6 +112,7 @@ turn_joined edges start old new before after n i m b t j edge inside at keeps be
             let two : o ≡ m = cc in
             inl (subst (λ x. Has (set_at new x) a) (sym two) (subst (λ s. Has s a) (sym here) (j.adds.more a has)))
         go (inr e) = inr (later o l (next_place i l le e) there)
+
     settled_new : (k o a : ℕ) → Edge edges k o → Has (set_at new k) a → Has (set_at new o) a ⊎ Waits edges after n (i + 1) k o
     settled_new k o a e has = go (comes k a has) news
       where
@@ -107,7 +121,7 @@ turn_joined edges start old new before after n i m b t j edge inside at keeps be
         go (inl h) either = turn k o a h (t.settled k o a e h)
         go (inr (same, h)) (inl f) =
             let old_has : Has (set_at old k) a = subst (λ x. Has (set_at old x) a) (sym same)
-                (f a (subst (λ x. Has (set_at new x) a) same has)) in
+            (f a (subst (λ x. Has (set_at new x) a) same has)) in
             turn k o a old_has (t.settled k o a e old_has)
         go (inr (same, h)) (inr c) = inr (works k o (subst (λ x. Contains after x) (sym same) c))
 
@@ -116,8 +130,14 @@ pub turn_same : (edges : List (List ℕ)) (start sets : List BitSet) (work : Lis
     → Turning edges start sets work n i → ((a : ℕ) → Has (set_at sets n) a → Has (set_at sets m) a)
     → slice_get (slice_index_or edges n []) i ≡ Some m → Turning edges start sets work n (i + 1)
 turn_same edges start sets work n i m t flows at =
-    record { long = t.long; sizes = t.sizes; within = t.within; kept = t.kept; nodes = t.nodes;
-             settled = λ k o a e has. turn k o a has (t.settled k o a e has) }
+    record {
+      long = t.long;
+      sizes = t.sizes;
+      within = t.within;
+      kept = t.kept;
+      nodes = t.nodes;
+      settled = λ k o a e has. turn k o a has (t.settled k o a e has);
+    }
   where
     turn : (k o a : ℕ) → Has (set_at sets k) a → Has (set_at sets o) a ⊎ Waits edges work n i k o
         → Has (set_at sets o) a ⊎ Waits edges work n (i + 1) k o
@@ -156,28 +176,31 @@ pub sent : (edges : List (List ℕ)) (start old new : List BitSet) (before after
     → Turning edges start old before n i → Sent old new before after n m → Edge edges n m → m < length start
     → slice_get (slice_index_or edges n []) i ≡ Some m
     → Turning edges start new after n (i + 1) × (2 * holes new + length after ≤ 2 * holes old + length before)
-sent edges start old new before after n i m t (Sent.same e w flows) edge inside at =
-    (subst₂ (λ s l. Turning edges start s l n (i + 1)) (sym e) (sym w) (turn_same edges start old before n i m t flows at),
-     (let x : holes new ≡ holes old = ap holes e in let y : length after ≡ length before = ap length w in omega (arith, x, y)))
+sent edges start old new before after n i m t (Sent.same e w flows) edge inside at = (
+  subst₂ (λ s l. Turning edges start s l n (i + 1)) (sym e) (sym w) (turn_same edges start old before n i m t flows at),
+  (let x : holes new ≡ holes old = ap holes e in let y : length after ≡ length before = ap length w in omega (arith, x, y)),
+)
 sent edges start old new before after n i m t (Sent.joined j w) edge inside at =
     let low : m < length old = (let l = t.long in omega (arith, l, inside)) in
-    let here = set_new old new n m false j low in
-    (turn_joined edges start old new before after n i m false t j edge inside at
-        (λ k c. subst (λ l. Contains l k) (sym w) c) (λ k c. t.nodes k (subst (λ l. Contains l k) w c))
-        (inl (λ a h. no_growth a (subst (λ s. Has s a) here h) (dec_has (set_at old m) a))),
-     (let x = joined_le old new n m false j low in let y : length after ≡ length before = ap length w in omega (arith, x, y)))
+    let here = set_new old new n m false j low in (
+      turn_joined edges start old new before after n i m false t j edge inside at
+          (λ k c. subst (λ l. Contains l k) (sym w) c) (λ k c. t.nodes k (subst (λ l. Contains l k) w c))
+          (inl (λ a h. no_growth a (subst (λ s. Has s a) here h) (dec_has (set_at old m) a))),
+      (let x = joined_le old new n m false j low in let y : length after ≡ length before = ap length w in omega (arith, x, y)),
+    )
   where
     no_growth : (a : ℕ) → Has j.joined a → Has (set_at old m) a ⊎ (Has (set_at old m) a → ⊥) → Has (set_at old m) a
     no_growth a h (inl old_has) = old_has
     no_growth a h (inr none) = let both : false ≡ true = j.more.1 (a, h, none) in cc
 sent edges start old new before after n i m t (Sent.grew j w) edge inside at =
-    let low : m < length old = (let l = t.long in omega (arith, l, inside)) in
-    (turn_joined edges start old new before after n i m true t j edge inside at
-        (λ k c. subst (λ l. Contains l k) (sym w) (Contains-append_left before (m ∷ []) k c))
-        (λ k c. known k (Contains-append_cases before (m ∷ []) k (subst (λ l. Contains l k) w c)))
-        (inr (subst (λ l. Contains l m) (sym w) (Contains-append_right before (m ∷ []) m (0, omega arith, refl)))),
-     (let x = joined_lt old new n m j low in let y : length after ≡ length (before ++ (m ∷ [])) = ap length w in
-      let z = length-append before (m ∷ []) in omega (arith, x, y, z)))
+    let low : m < length old = (let l = t.long in omega (arith, l, inside)) in (
+      turn_joined edges start old new before after n i m true t j edge inside at
+          (λ k c. subst (λ l. Contains l k) (sym w) (Contains-append_left before (m ∷ []) k c))
+          (λ k c. known k (Contains-append_cases before (m ∷ []) k (subst (λ l. Contains l k) w c)))
+          (inr (subst (λ l. Contains l m) (sym w) (Contains-append_right before (m ∷ []) m (0, omega arith, refl)))),
+      (let x = joined_lt old new n m j low in let y : length after ≡ length (before ++ (m ∷ [])) = ap length w in
+          let z = length-append before (m ∷ []) in omega (arith, x, y, z)),
+    )
   where
     known : (k : ℕ) → Contains before k ⊎ Contains (m ∷ []) k → k < length start
     known k (inl c) = t.nodes k c
@@ -187,18 +210,25 @@ sent edges start old new before after n i m t (Sent.grew j w) edge inside at =
 pub popped : (edges : List (List ℕ)) (start sets : List BitSet) (rest : List ℕ) (n : ℕ)
     → Turning edges start sets (rest ++ (n ∷ [])) (length edges) 0 → Turning edges start sets rest n 0
 popped edges start sets rest n t =
-    record { long = t.long; sizes = t.sizes; within = t.within; kept = t.kept;
-             nodes = λ k c. t.nodes k (Contains-append_left rest (n ∷ []) k c);
-             settled = λ k m a e has. go k m a e (t.settled k m a e has) }
+    record {
+      long = t.long;
+      sizes = t.sizes;
+      within = t.within;
+      kept = t.kept;
+      nodes = λ k c. t.nodes k (Contains-append_left rest (n ∷ []) k c);
+      settled = λ k m a e has. go k m a e (t.settled k m a e has);
+    }
   where
     mine : (k m : ℕ) → Edge edges k m → k ≡ n → Waits edges rest n 0 k m
     mine k m (j, low, is) e =
         let at : slice_get (slice_index_or edges k []) j ≡ Some m = slice_get-get_or (slice_index_or edges k []) j m low ∙ ap (λ x. Some x) is in
         subst (λ x. Waits edges rest n 0 x m) (sym e)
-            (later m j (omega arith) (subst (λ x. slice_get (slice_index_or edges x []) j ≡ Some m) e at))
+        (later m j (omega arith) (subst (λ x. slice_get (slice_index_or edges x []) j ≡ Some m) e at))
+
     who : (k m : ℕ) → Edge edges k m → Contains rest k ⊎ Contains (n ∷ []) k → Waits edges rest n 0 k m
     who k m e (inl c) = works k m c
     who k m e (inr c) = mine k m e (one_member n k c)
+
     go : (k m a : ℕ) → Edge edges k m → Has (set_at sets m) a ⊎ Waits edges (rest ++ (n ∷ [])) (length edges) 0 k m
         → Has (set_at sets m) a ⊎ Waits edges rest n 0 k m
     go k m a e (inl h) = inl h
@@ -207,8 +237,14 @@ popped edges start sets rest n t =
 pub row_done : (edges : List (List ℕ)) (start sets : List BitSet) (work : List ℕ) (n : ℕ)
     → Turning edges start sets work n (length (slice_index_or edges n [])) → Turning edges start sets work (length edges) 0
 row_done edges start sets work n t =
-    record { long = t.long; sizes = t.sizes; within = t.within; kept = t.kept; nodes = t.nodes;
-             settled = λ k m a e has. go k m a (t.settled k m a e has) }
+    record {
+      long = t.long;
+      sizes = t.sizes;
+      within = t.within;
+      kept = t.kept;
+      nodes = t.nodes;
+      settled = λ k m a e has. go k m a (t.settled k m a e has);
+    }
   where
     go : (k m a : ℕ) → Has (set_at sets m) a ⊎ Waits edges work n (length (slice_index_or edges n [])) k m
         → Has (set_at sets m) a ⊎ Waits edges work (length edges) 0 k m
@@ -233,9 +269,14 @@ pub all_wait : (edges : List (List ℕ)) (start : List BitSet) (work : List ℕ)
     → (size : ℕ) × All (λ set. set.size ≡ size) start → ((k : ℕ) → Contains work k ↔ (k < length start))
     → Turning edges start start work (length edges) 0
 all_wait edges start work long (size, are) has =
-    record { long = refl; sizes = (size, λ k low. are k no_set low); within = λ n a h. own n a h; kept = λ n a h. h;
-             nodes = λ k c. (has k).0 c;
-             settled = λ k m a e h. inr (works k m ((has k).1 (inside k m e))) }
+    record {
+      long = refl;
+      sizes = (size, λ k low. are k no_set low);
+      within = λ n a h. own n a h;
+      kept = λ n a h. h;
+      nodes = λ k c. (has k).0 c;
+      settled = λ k m a e h. inr (works k m ((has k).1 (inside k m e)));
+    }
   where
     inside : (k m : ℕ) → Edge edges k m → k < length start
     inside k m (j, low, is) = go (lt_or_out k (length start))
@@ -263,8 +304,10 @@ one_more work n has k =
     there : Contains work k ⊎ Contains (n ∷ []) k → k < n + 1
     there (inl c) = let low = (has k).0 c in omega (arith, low)
     there (inr c) = let e = one_member n k c in omega (arith, e)
+
     which : (k n : ℕ) → k < n + 1 → (k < n) ⊎ (k ≡ n)
     which k n low = grind arith
+
     back : (k < n) ⊎ (k ≡ n) → Contains (work ++ (n ∷ [])) k
     back (inl low) = Contains-append_left work (n ∷ []) k ((has k).1 low)
     back (inr e) = Contains-append_right work (n ∷ []) k (0, omega arith, sym e)
@@ -285,6 +328,7 @@ pub edge_at : (rows : List (Vec ℕ Global)) (n i m : ℕ) (row : Vec ℕ Global
     → (slice_get (slice_index_or (rows_of rows) n []) i ≡ Some m) × Edge (rows_of rows) n m
 edge_at rows n i m row low is inside there =
     let same = row_is rows n row low is in
-    let at : slice_get row.items i ≡ Some m = slice_get_read row.items (length row.items) i m refl inside there in
-    (subst (λ l. slice_get l i ≡ Some m) (sym same) at,
-     subst (λ l. Contains l m) (sym same) (i, inside, sym there))
+    let at : slice_get row.items i ≡ Some m = slice_get_read row.items (length row.items) i m refl inside there in (
+      subst (λ l. slice_get l i ≡ Some m) (sym same) at,
+      subst (λ l. Contains l m) (sym same) (i, inside, sym there),
+    )

@@ -1,24 +1,24 @@
 -- Kernels and the items that come of them.
-use Rattle.std.proofs.Common.{◌≡◌, ◌≢◌, ℕ, zero, suc, ◌+◌, ◌*◌, ◌/◌, ◌%◌, ◌<◌, ◌≤◌, ◌↔◌, ◌⊎◌, inl, inr, List, [], ◌∷◌, ◌++◌, length, refl, sym, ap, ap₂, subst, subst₂, ◌∙◌, arith, slice_get, Option, Some, None, Contains, get_or, All, drop}
-use Rattle.std.proofs.lemmas.List.Elements.{Contains-append_left, Contains-append_right, Contains-append_cases, All-head, All-tail, All-cons}
-use Rattle.std.proofs.lemmas.Option.{slice_get-get_or, slice_get_within, get_or_from_slice_get}
+use Rattle.std.proofs.Common.{◌≡◌, ℕ, zero, suc, ◌+◌, ◌/◌, ◌%◌, ◌<◌, ◌≤◌, ◌⊎◌, inl, inr, List, [], ◌∷◌, ◌++◌, refl, sym, ap, subst, subst₂, ◌∙◌, arith, slice_get, Option, Some, None, Contains, All, drop}
+use Rattle.std.proofs.lemmas.List.Elements.{Contains-append_left, Contains-append_right, Contains-append_cases, All-cons}
+use Rattle.std.proofs.lemmas.Option.{slice_get_within, get_or_from_slice_get}
 use Rattle.ck_base.specs.BitSet.{BitSet, Has}
 use Rattle.cfg_model.specs.declared.symbol.Sym.{Sym}
-use Rattle.cfg_model.specs.declared.symbol.Sym.TheVariants.{T, N}
-use Rattle.cfg_model.specs.Cfg.{Cfg, Rule, IsRule, IsSymbol, IsGrammar}
+use Rattle.cfg_model.specs.declared.symbol.Sym.TheVariants.{N}
+use Rattle.cfg_model.specs.Cfg.{Cfg, Rule, IsSymbol, IsGrammar}
 use Rattle.cfg_model.specs.Items.{Item, right_of, right_or}
 use Rattle.lalr_look.specs.Rising.{Climbs, ends, climbs}
-use Rattle.lalr_look.proofs.Ordered.{climbs_above, one_rising, same_kernel, only_first}
+use Rattle.lalr_look.proofs.Ordered.{climbs_above}
 use Rattle.cfg_model.proofs.CoreNumbers.{right_is, drop_next}
 use Rattle.cfg_model.proofs.InGrammar.{right_in}
-use Rattle.lalr_look.proofs.Turns.{contained, placed, this_or_less}
-use Rattle.lalr_look.specs.Kernel.{code, NextIs, NextAt, HasItem, IsItems, IsKernel, Calls, CalledBy, Moves, Opens, IsOpened, place_of, callers, front_of}
+use Rattle.lalr_look.proofs.Turns.{contained, this_or_less}
+use Rattle.lalr_look.specs.Kernel.{code, NextIs, NextAt, Moves, Opens}
 
 -- every symbol of a right side is the grammar's
-all_at : (P : Sym → Type 0) (l : List Sym) (i : ℕ) (x : Sym) → All P l → slice_get l i ≡ Some x → P x
+pub all_at : (P : Sym → Type 0) (l : List Sym) (i : ℕ) (x : Sym) → All P l → slice_get l i ≡ Some x → P x
 all_at P l i x all is = subst P (get_or_from_slice_get l i x x is) (all i x (slice_get_within l i x is))
 
-right_ok : (g : Cfg) → IsGrammar g → (r : ℕ) → All (IsSymbol g) (right_of g r)
+pub right_ok : (g : Cfg) → IsGrammar g → (r : ℕ) → All (IsSymbol g) (right_of g r)
 right_ok g ok zero = All-cons (IsSymbol g) (N g.start) [] ok.start (λ k d under. absurd (omega (arith, under)))
 right_ok g ok (suc i) = go (slice_get g.rules i) refl
   where
@@ -41,7 +41,7 @@ drop_get zero (z ∷ w) y x e = (let same : z ≡ x = cc in ap (λ s. Some s) sa
 drop_get (suc d) [] y x e = cc
 drop_get (suc d) (z ∷ w) y x e = drop_get d w y x e
 
-get_drop : (d : ℕ) (w : List Sym) (x : Sym) → slice_get w d ≡ Some x → drop d w ≡ x ∷ drop (suc d) w
+pub get_drop : (d : ℕ) (w : List Sym) (x : Sym) → slice_get w d ≡ Some x → drop d w ≡ x ∷ drop (suc d) w
 get_drop zero [] x e = cc
 get_drop zero (z ∷ w) x e = (let same : z ≡ x = cc in ap (λ s. s ∷ w) same)
 get_drop (suc d) [] x e = cc
@@ -67,7 +67,7 @@ pub item_next : (g : Cfg) → IsGrammar g → (p : List Sym) (r d : ℕ) (x : Sy
 item_next g ok p r d x y i =
     let low = small_rule g ok p r d (x ∷ y) i in
     subst₂ (λ a b. slice_get (right_of g a) b ≡ Some x) (sym (code_rule r d low)) (sym (code_dot r d low))
-        (drop_get d (right_of g r) y x (item_behind g p r d (x ∷ y) i))
+    (drop_get d (right_of g r) y x (item_behind g p r d (x ∷ y) i))
 
 pub next_item : (g : Cfg) → IsGrammar g → (p : List Sym) (r d : ℕ) (x : Sym) (y : List Sym) → Item g p r d y → NextIs g (code r d) x
     → y ≡ x ∷ drop (suc d) (right_of g r)
@@ -114,15 +114,19 @@ last_one kernel b c has = go (Contains-append_cases kernel (b ∷ []) c has)
 one_moved : (g : Cfg) (items : List ℕ) (i j b : ℕ) (before : List ℕ) → Climbs 0 items → MoveFacts g items i j before
     → slice_get items j ≡ Some b → NextAt g b i → MoveFacts g items i (j + 1) (before ++ ((b + 2048) ∷ []))
 one_moved g items i j b before up t at next =
-    record { only = only; all = all;
-             rising = climbs_join 2048 (b + 2048) before ((b + 2048) ∷ []) t.rising below (omega arith)
-                 (climbs (b + 2048) (b + 2048) [] (omega arith) (ends (suc (b + 2048)))) }
+    record {
+      only = only;
+      all = all;
+      rising = climbs_join 2048 (b + 2048) before ((b + 2048) ∷ []) t.rising below (omega arith)
+          (climbs (b + 2048) (b + 2048) [] (omega arith) (ends (suc (b + 2048))));
+    }
   where
     below : (c : ℕ) → Contains before c → c < b + 2048
     below c h =
         let (k, a, less, is, nexts, e) = t.only c h in
         let low = climbs_get 0 items up k j a b less is at in
         omega (arith, low, e)
+
     only : (c : ℕ) → Contains (before ++ ((b + 2048) ∷ [])) c
         → (k : ℕ) × (a : ℕ) × (k < j + 1) × (slice_get items k ≡ Some a) × NextAt g a i × (c ≡ a + 2048)
     only c h = go (last_one before (b + 2048) c h)
@@ -130,6 +134,7 @@ one_moved g items i j b before up t at next =
         go : Contains before c ⊎ (c ≡ b + 2048) → (k : ℕ) × (a : ℕ) × (k < j + 1) × (slice_get items k ≡ Some a) × NextAt g a i × (c ≡ a + 2048)
         go (inl l) = let (k, a, less, is, nexts, e) = t.only c l in (k, a, omega (arith, less), is, nexts, e)
         go (inr e) = (j, b, omega arith, at, next, e)
+
     all : (k a : ℕ) → k < j + 1 → slice_get items k ≡ Some a → NextAt g a i → Contains (before ++ ((b + 2048) ∷ [])) (a + 2048)
     all k a low is nexts = go (this_or_less k j low)
       where
@@ -143,8 +148,11 @@ one_moved g items i j b before up t at next =
 one_passed : (g : Cfg) (items : List ℕ) (i j b : ℕ) (kernel : List ℕ) → MoveFacts g items i j kernel
     → slice_get items j ≡ Some b → (NextAt g b i → ⊥) → MoveFacts g items i (j + 1) kernel
 one_passed g items i j b kernel t at not_next =
-    record { only = λ c h. (let (k, a, less, is, nexts, e) = t.only c h in (k, a, omega (arith, less), is, nexts, e));
-             all = all; rising = t.rising }
+    record {
+      only = λ c h. (let (k, a, less, is, nexts, e) = t.only c h in (k, a, omega (arith, less), is, nexts, e));
+      all = all;
+      rising = t.rising;
+    }
   where
     all : (k a : ℕ) → k < j + 1 → slice_get items k ≡ Some a → NextAt g a i → Contains kernel (a + 2048)
     all k a low is nexts = go (this_or_less k j low)
@@ -175,14 +183,19 @@ pub record OpenFacts (g : Cfg) (called : BitSet) (front : List ℕ) (count : ℕ
 one_opened : (g : Cfg) (called : BitSet) (front items : List ℕ) (j : ℕ) (one : Rule) → OpenFacts g called front j items
     → slice_get g.rules j ≡ Some one → Has called one.left → OpenFacts g called front (j + 1) (items ++ ((j + 1) ∷ []))
 one_opened g called front items j one t at has =
-    record { only = only; kept = λ c h. Contains-append_left items ((j + 1) ∷ []) c (t.kept c h); all = all;
-             rising = climbs_join 0 (j + 1) items ((j + 1) ∷ []) t.rising (λ c h. (let b = t.below c h in omega (arith, b))) (omega arith)
-                 (climbs (j + 1) (j + 1) [] (omega arith) (ends (suc (j + 1))));
-             below = λ c h. low c (last_one items (j + 1) c h) }
+    record {
+      only = only;
+      kept = λ c h. Contains-append_left items ((j + 1) ∷ []) c (t.kept c h);
+      all = all;
+      rising = climbs_join 0 (j + 1) items ((j + 1) ∷ []) t.rising (λ c h. (let b = t.below c h in omega (arith, b))) (omega arith)
+          (climbs (j + 1) (j + 1) [] (omega arith) (ends (suc (j + 1))));
+      below = λ c h. low c (last_one items (j + 1) c h);
+    }
   where
     low : (c : ℕ) → Contains items c ⊎ (c ≡ j + 1) → c ≤ j + 1
     low c (inl h) = let b = t.below c h in omega (arith, b)
     low c (inr e) = omega (arith, e)
+
     only : (c : ℕ) → Contains (items ++ ((j + 1) ∷ [])) c
         → Contains front c ⊎ ((k : ℕ) × (other : Rule) × (k < j + 1) × (slice_get g.rules k ≡ Some other) × Has called other.left × (c ≡ k + 1))
     only c h = go (last_one items (j + 1) c h)
@@ -191,10 +204,12 @@ one_opened g called front items j one t at has =
             → Contains front c ⊎ ((k : ℕ) × (other : Rule) × (k < j + 1) × (slice_get g.rules k ≡ Some other) × Has called other.left × (c ≡ k + 1))
         older (inl f) = inl f
         older (inr (k, other, less, is, h2, e)) = inr (k, other, omega (arith, less), is, h2, e)
+
         go : Contains items c ⊎ (c ≡ j + 1)
             → Contains front c ⊎ ((k : ℕ) × (other : Rule) × (k < j + 1) × (slice_get g.rules k ≡ Some other) × Has called other.left × (c ≡ k + 1))
         go (inl l) = older (t.only c l)
         go (inr e) = inr (j, one, omega arith, at, has, e)
+
     all : (k : ℕ) (other : Rule) → k < j + 1 → slice_get g.rules k ≡ Some other → Has called other.left → Contains (items ++ ((j + 1) ∷ [])) (k + 1)
     all k other less is h = go (this_or_less k j less)
       where
@@ -205,13 +220,19 @@ one_opened g called front items j one t at has =
 one_closed : (g : Cfg) (called : BitSet) (front items : List ℕ) (j : ℕ) (one : Rule) → OpenFacts g called front j items
     → slice_get g.rules j ≡ Some one → (Has called one.left → ⊥) → OpenFacts g called front (j + 1) items
 one_closed g called front items j one t at not_has =
-    record { only = λ c h. older c (t.only c h); kept = t.kept; all = all; rising = t.rising;
-             below = λ c h. (let b = t.below c h in omega (arith, b)) }
+    record {
+      only = λ c h. older c (t.only c h);
+      kept = t.kept;
+      all = all;
+      rising = t.rising;
+      below = λ c h. (let b = t.below c h in omega (arith, b));
+    }
   where
     older : (c : ℕ) → Contains front c ⊎ ((k : ℕ) × (other : Rule) × (k < j) × (slice_get g.rules k ≡ Some other) × Has called other.left × (c ≡ k + 1))
         → Contains front c ⊎ ((k : ℕ) × (other : Rule) × (k < j + 1) × (slice_get g.rules k ≡ Some other) × Has called other.left × (c ≡ k + 1))
     older c (inl f) = inl f
     older c (inr (k, other, less, is, h2, e)) = inr (k, other, omega (arith, less), is, h2, e)
+
     all : (k : ℕ) (other : Rule) → k < j + 1 → slice_get g.rules k ≡ Some other → Has called other.left → Contains items (k + 1)
     all k other less is h = go (this_or_less k j less)
       where
@@ -225,8 +246,13 @@ one_closed g called front items j one t at not_has =
 pub open_facts : (g : Cfg) (called : BitSet) (front : List ℕ) (count : ℕ) (items : List ℕ) → Climbs 0 front → ((c : ℕ) → Contains front c → c ≡ 0)
     → Opens g called front count items → OpenFacts g called front count items
 open_facts g called front count items up zeros Opens.at_first =
-    record { only = λ c h. inl h; kept = λ c h. h; all = λ j one low. absurd (omega (arith, low)); rising = up;
-             below = λ c h. (let e = zeros c h in omega (arith, e)) }
+    record {
+      only = λ c h. inl h;
+      kept = λ c h. h;
+      all = λ j one low. absurd (omega (arith, low));
+      rising = up;
+      below = λ c h. (let e = zeros c h in omega (arith, e));
+    }
 open_facts g called front count items up zeros (Opens.opened j one before o at has) =
     one_opened g called front before j one (open_facts g called front j before up zeros o) at has
 open_facts g called front count items up zeros (Opens.passed j one _ o at not_has) =

@@ -7,7 +7,7 @@ use Rattle.std.proofs.lemmas.List.Folds.{list_any_none}
 use Rattle.std.proofs.lemmas.List.Quantifiers.{position-Some}
 use Rattle.std.proofs.lemmas.List.Sums.{position_or_len_is}
 use Rattle.std.proofs.lemmas.Option.{none-some, same_Some, slice_get-get_or, slice_get_within, get_or_from_slice_get}
-use Rattle.lalr_look.specs.Numbered.{AreApart, AreNumbered, Interns, known, added}
+use Rattle.lalr_look.specs.Numbered.{AreApart, AreNumbered, Interns, added}
 
 -- a test on what is seen of the values
 pub position_or_len-seen : {K X : Type 0} (seen : K → X) (test : X → Bool) (raw : List K)
@@ -42,7 +42,7 @@ module _ {X : Type 0} (eq : X → X → Bool) (decides : (a b : X) → (eq a b �
   no_earlier apart n k there earlier = false_from_ne_true _ (λ equal.
       let within = slice_get_within xs n x there in
       let here : slice_get xs k ≡ Some x =
-          slice_get-get_or xs k x (omega (arith, within, earlier)) ∙ ap Some (sym ((decides x (get_or xs k x)).0 equal)) in
+      slice_get-get_or xs k x (omega (arith, within, earlier)) ∙ ap Some (sym ((decides x (get_or xs k x)).0 equal)) in
       let same = apart k n x here there in
       omega (arith, same, earlier))
 
@@ -79,6 +79,7 @@ module _ {X : Type 0} (eq : X → X → Bool) (decides : (a b : X) → (eq a b �
       where
         there : (k : ℕ) → slice_get xs k ≡ Some other → x ≡ other → ⊥
         there k at same = absent (k, slice_get_within xs k other at, get_or_from_slice_get xs k other x at ∙ sym same)
+
         go : (slice_get xs i ≡ Some other) ⊎ ((i ≡ length xs) × (x ≡ other)) → (slice_get xs j ≡ Some other) ⊎ ((j ≡ length xs) × (x ≡ other)) → i ≡ j
         go (inl l) (inl m) = apart i j other l m
         go (inl l) (inr (e, same)) = absurd (there i l same)
@@ -116,9 +117,11 @@ pair_eq-decides a b = (only, back)
     both true true e = (refl, refl)
     both true false e = absurd (true≢false (sym e))
     both false q e = absurd (true≢false (sym e))
+
     only : pair_eq a b ≡ true → a ≡ b
     only e =
         let (one, two) = both (eqb a.0 b.0) (eqb a.1 b.1) e in
-        ap₂ (λ u v. (u , v)) (eqb-true a.0 b.0 one) (eqb-true a.1 b.1 two)
+        ap₂ (λ u v. (u, v)) (eqb-true a.0 b.0 one) (eqb-true a.1 b.1 two)
+
     back : a ≡ b → pair_eq a b ≡ true
     back e = ap₂ (λ u v. u && v) (eq-eqb a.0 b.0 (ap (λ p. p.0) e)) (eq-eqb a.1 b.1 (ap (λ p. p.1) e))

@@ -1,17 +1,17 @@
 -- The kernel of a prefix gives its items, and they give the kernels of longer prefixes.
-use Rattle.std.proofs.Common.{◌≡◌, ◌≢◌, ℕ, zero, suc, ◌+◌, ◌*◌, ◌/◌, ◌%◌, ◌<◌, ◌≤◌, ◌↔◌, ◌⊎◌, inl, inr, List, [], ◌∷◌, ◌++◌, length, refl, sym, ap, ap₂, subst, subst₂, ◌∙◌, arith, slice_get, Option, Some, None, Contains, get_or, All, drop}
+use Rattle.std.proofs.Common.{◌≡◌, ◌≢◌, ℕ, zero, suc, ◌+◌, ◌<◌, ◌↔◌, ◌⊎◌, inl, inr, List, [], ◌∷◌, ◌++◌, length, refl, sym, ap, subst, subst₂, ◌∙◌, arith, slice_get, Some, Contains, drop}
 use Rattle.std.proofs.lemmas.List.Elements.{Contains-append_left, Contains-append_right, Contains-append_cases}
-use Rattle.std.proofs.lemmas.Option.{slice_get-get_or, slice_get_within, get_or_from_slice_get}
-use Rattle.ck_base.specs.BitSet.{BitSet, Has}
+use Rattle.std.proofs.lemmas.Option.{slice_get_within}
+use Rattle.ck_base.specs.BitSet.{Has}
 use Rattle.cfg_model.specs.declared.symbol.Sym.{Sym}
 use Rattle.cfg_model.specs.declared.symbol.Sym.TheVariants.{T, N}
 use Rattle.cfg_model.specs.Cfg.{Cfg, Rule, IsRule, IsSymbol, IsGrammar}
-use Rattle.cfg_model.specs.Items.{Item, right_of, right_or}
+use Rattle.cfg_model.specs.Items.{Item, right_of}
 use Rattle.lalr_look.specs.Rising.{Climbs, ends, climbs}
-use Rattle.lalr_look.proofs.Ordered.{climbs_above, one_rising, same_kernel, only_first}
-use Rattle.lalr_look.proofs.Turns.{contained, placed, this_or_less}
-use Rattle.lalr_look.proofs.Items.{next_symbol, item_behind, small_rule, code_rule, code_dot, item_next, next_item, climbs_join, MoveFacts, move_facts, OpenFacts, open_facts}
-use Rattle.lalr_look.specs.Kernel.{code, NextIs, NextAt, HasItem, IsItems, IsKernel, Calls, self, on, CalledBy, Moves, Opens, IsOpened, place_of, callers, front_of}
+use Rattle.lalr_look.proofs.Ordered.{one_rising, same_kernel}
+use Rattle.lalr_look.proofs.Turns.{contained, placed}
+use Rattle.lalr_look.proofs.Items.{next_symbol, item_behind, small_rule, item_next, next_item, climbs_join, MoveFacts, move_facts, OpenFacts, open_facts}
+use Rattle.lalr_look.specs.Kernel.{code, NextIs, NextAt, HasItem, IsItems, IsKernel, Calls, self, on, CalledBy, Moves, IsOpened, place_of, callers, front_of}
 
 -- the item isn't one of a called rule: its dot is past the front, or it is that of rule 0
 pub data Given : List Sym → ℕ → ℕ → Type 0 where
@@ -114,8 +114,13 @@ called_in g ok p kernel k n by =
 
 called_by : (g : Cfg) → IsGrammar g → (p : List Sym) (kernel : List ℕ) → IsKernel g p kernel → (n : ℕ) → CalledIn g p n → CalledBy g (callers kernel) n
 called_by g ok p kernel k n c =
-    record { item = code c.r c.d; from = c.m; stands = callers_all g p kernel k c.r c.d (N c.m ∷ c.y) c.item c.given;
-             next = item_next g ok p c.r c.d (N c.m) c.y c.item; calls = c.calls }
+    record {
+      item = code c.r c.d;
+      from = c.m;
+      stands = callers_all g p kernel k c.r c.d (N c.m ∷ c.y) c.item c.given;
+      next = item_next g ok p c.r c.d (N c.m) c.y c.item;
+      calls = c.calls;
+    }
 
 front_rising : (kernel : List ℕ) → Climbs 0 (front_of kernel)
 front_rising [] = climbs 0 0 [] (omega arith) (ends 1)
@@ -129,33 +134,47 @@ front_zero (b ∷ kernel) c (i, low, is) = absurd (omega (arith, low))
 -- the items of a kernel's core are the prefix's
 pub items_is : (g : Cfg) → IsGrammar g → (p : List Sym) (kernel items : List ℕ) → IsKernel g p kernel → IsOpened g kernel items → IsItems g p items
 items_is g ok p kernel items k o =
-    record { rising = subst (λ l. Climbs 0 l) (sym o.whole)
-                 (climbs_join 0 2048 o.front kernel t.rising (λ c h. (let b = t.below c h in let few = ok.few_rules in omega (arith, b, few))) (omega arith) k.rising);
-             each = λ c. (λ has. only c (Contains-append_cases o.front kernel c (subst (λ l. Contains l c) o.whole has)),
-                          λ i. subst (λ l. Contains l c) (sym o.whole) (all c i)) }
+    record {
+      rising = subst (λ l. Climbs 0 l) (sym o.whole)
+          (climbs_join 0 2048 o.front kernel t.rising (λ c h. (let b = t.below c h in let few = ok.few_rules in omega (arith, b, few))) (omega arith) k.rising);
+      each = λ c. (
+        λ has. only c (Contains-append_cases o.front kernel c (subst (λ l. Contains l c) o.whole has)),
+        λ i. subst (λ l. Contains l c) (sym o.whole) (all c i),
+      );
+    }
   where
     t : OpenFacts g o.called (front_of kernel) (length g.rules) o.front
     t = open_facts g o.called (front_of kernel) (length g.rules) o.front (front_rising kernel) (front_zero kernel) o.opens
+
     in_front : (kernel : List ℕ) → IsKernel g p kernel → (c : ℕ) → Contains (front_of kernel) c → (r : ℕ) × (d : ℕ) × (y : List Sym) × (c ≡ code r d) × Item g p r d y
     in_front [] k c h =
         (0, 0, N g.start ∷ [], front_zero [] c h, subst (λ q. Item g q 0 0 (N g.start ∷ [])) (sym (kernel_none g p k)) Item.start)
     in_front (b ∷ kernel) k c (i, low, is) = absurd (omega (arith, low))
+
     opened_one : (c j : ℕ) (one : Rule) → slice_get g.rules j ≡ Some one → Has o.called one.left → c ≡ j + 1 → (r : ℕ) × (d : ℕ) × (y : List Sym) × (c ≡ code r d) × Item g p r d y
     opened_one c j one at has e =
-        let called = called_in g ok p kernel k one.left ((o.calls one.left).0 has) in
-        (j + 1, 0, one.right, omega (arith, e),
-         opens_item g p called.r called.d called.m called.y called.item one.left called.calls (j + 1) one.right
-            (record { place = j; from_one = refl; read = at }))
+        let called = called_in g ok p kernel k one.left ((o.calls one.left).0 has) in (
+          j + 1,
+          0,
+          one.right,
+          omega (arith, e),
+          opens_item g p called.r called.d called.m called.y called.item one.left called.calls (j + 1) one.right
+              (record { place = j; from_one = refl; read = at }),
+        )
+
     front_only : (c : ℕ) → Contains (front_of kernel) c ⊎ ((j : ℕ) × (one : Rule) × (j < length g.rules) × (slice_get g.rules j ≡ Some one) × Has o.called one.left × (c ≡ j + 1))
         → (r : ℕ) × (d : ℕ) × (y : List Sym) × (c ≡ code r d) × Item g p r d y
     front_only c (inl h) = in_front kernel k c h
     front_only c (inr (j, one, low, at, has, e)) = opened_one c j one at has e
+
     only : (c : ℕ) → Contains o.front c ⊎ Contains kernel c → (r : ℕ) × (d : ℕ) × (y : List Sym) × (c ≡ code r d) × Item g p r d y
     only c (inl h) = front_only c (t.only c h)
     only c (inr h) = let (r, d, y, e, i) = (k.each c).0 h in (r, suc d, y, e, i)
+
     put : (kernel : List ℕ) → IsKernel g p kernel → p ≡ [] → Contains (front_of kernel) 0
     put [] k e = (0, omega arith, refl)
     put (b ∷ kernel) k e = absurd (kernel_some g p b kernel k e)
+
     by_origin : (r d : ℕ) (y : List Sym) (q : List Sym) → q ≡ p → Item g p r d y → Origin g q r d y → Contains (o.front ++ kernel) (code r d)
     by_origin r d y q e i (Origin.of_kernel _ _ _ (past _ _ b)) =
         Contains-append_right o.front kernel (code r (suc b)) ((k.each (code r (suc b))).1 (r, b, y, refl, i))
@@ -165,6 +184,7 @@ items_is g ok p kernel items k o =
         let called = called_by g ok p kernel k n (subst (λ l. CalledIn g l n) e c) in
         let there = t.all is.place one (slice_get_within g.rules is.place one is.read) is.read ((o.calls n).1 called) in
         Contains-append_left o.front kernel (code r 0) (subst (λ b. Contains o.front b) (let f = is.from_one in omega (arith, f)) there)
+
     all : (c : ℕ) → ((r : ℕ) × (d : ℕ) × (y : List Sym) × (c ≡ code r d) × Item g p r d y) → Contains (o.front ++ kernel) c
     all c (r, d, y, e, i) = subst (λ b. Contains (o.front ++ kernel) b) (sym e) (by_origin r d y p refl i (origin g p r d y i))
 
@@ -181,7 +201,7 @@ moved_one g ok p x r d y sign i (z, next, at) =
     let same = symbol_one g z x (next_symbol g (code r d) z ok next) sign at in
     let is = next_item g ok p r d z y i next in
     Item.move p r d x (drop (suc d) (right_of g r))
-        (subst (λ s. Item g p r d (s ∷ drop (suc d) (right_of g r))) same (subst (λ l. Item g p r d l) is i))
+    (subst (λ s. Item g p r d (s ∷ drop (suc d) (right_of g r))) same (subst (λ l. Item g p r d l) is i))
 
 pub moved_members : (g : Cfg) → IsGrammar g → (p : List Sym) (items kernel : List ℕ) (x : Sym) → IsItems g p items → IsSymbol g x
     → MoveFacts g items (place_of g x) (length items) kernel
@@ -191,15 +211,20 @@ moved_members g ok p items kernel x is sign t c = (only, all)
     only : Contains kernel c → (r : ℕ) × (d : ℕ) × (y : List Sym) × (c ≡ code r (suc d)) × Item g (x ∷ p) r (suc d) y
     only h =
         let (j, b, low, at, next, e) = t.only c h in
-        let (r, d, y, f, i) = (is.each b).0 (contained items j b at) in
-        (r, d, drop (suc d) (right_of g r), omega (arith, e, f),
-         moved_one g ok p x r d y sign i (subst (λ a. NextAt g a (place_of g x)) f next))
+        let (r, d, y, f, i) = (is.each b).0 (contained items j b at) in (
+          r,
+          d,
+          drop (suc d) (right_of g r),
+          omega (arith, e, f),
+          moved_one g ok p x r d y sign i (subst (λ a. NextAt g a (place_of g x)) f next),
+        )
+
     all : ((r : ℕ) × (d : ℕ) × (y : List Sym) × (c ≡ code r (suc d)) × Item g (x ∷ p) r (suc d) y) → Contains kernel c
     all (r, d, y, e, i) =
         let before = unmoved g (x ∷ p) r (suc d) y i p x d refl refl in
         let (j, low, at) = (is.each (code r d)).1 (r, d, x ∷ y, refl, before) in
         subst (λ a. Contains kernel a) (omega (arith, e))
-            (t.all j (code r d) low (placed items j (code r d) low at) (x, item_next g ok p r d x y before, refl))
+        (t.all j (code r d) low (placed items j (code r d) low at) (x, item_next g ok p r d x y before, refl))
 
 pub moved_kernel : (g : Cfg) → IsGrammar g → (p : List Sym) (items : List ℕ) (i : ℕ) (kernel : List ℕ) (x : Sym) → IsItems g p items → IsSymbol g x
     → place_of g x ≡ i → Moves g items i (length items) kernel → kernel ≢ [] → IsKernel g (x ∷ p) kernel
@@ -208,8 +233,10 @@ moved_kernel g ok p items i kernel x is sign at m some =
   where
     t : MoveFacts g items (place_of g x) (length items) kernel
     t = move_facts g items (place_of g x) (length items) kernel is.rising (subst (λ k. Moves g items k (length items) kernel) (sym at) m)
+
     members : (c : ℕ) → Contains kernel c ↔ ((r : ℕ) × (d : ℕ) × (y : List Sym) × (c ≡ code r (suc d)) × Item g (x ∷ p) r (suc d) y)
     members = moved_members g ok p items kernel x is sign t
+
     go : (l : List ℕ) → l ≢ [] → ((c : ℕ) → Contains l c → (r : ℕ) × (d : ℕ) × (y : List Sym) × (c ≡ code r (suc d)) × Item g (x ∷ p) r (suc d) y) → HasItem g (x ∷ p)
     go [] no_one f = absurd (no_one refl)
     go (c ∷ l) some f = let (r, d, y, e, i) = f c (0, omega arith, refl) in (r, suc d, y, i)

@@ -1,9 +1,8 @@
 -- Numbers in the order in which they are met; kernels as rising lists.
-use Rattle.std.proofs.Common.{◌≡◌, ◌≢◌, ℕ, zero, suc, ◌+◌, ◌<◌, ◌≤◌, ◌↔◌, ◌⊎◌, inl, inr, List, [], ◌∷◌, ◌++◌, length, refl, sym, ap, ap₂, subst, ◌∙◌, arith, Contains}
-use Rattle.std.proofs.lemmas.List.Elements.{Contains-append_left, Contains-append_right, Contains-append_cases}
+use Rattle.std.proofs.Common.{◌≡◌, ℕ, zero, suc, ◌+◌, ◌<◌, ◌≤◌, ◌↔◌, ◌⊎◌, inl, inr, List, [], ◌∷◌, ◌++◌, refl, sym, ap, ap₂, subst, arith, Contains}
+use Rattle.std.proofs.lemmas.List.Elements.{Contains-append_left, Contains-append_right}
 use Rattle.cfg_model.specs.declared.symbol.Sym.{Sym}
-use Rattle.cfg_model.specs.declared.symbol.Sym.TheVariants.{T, N}
-use Rattle.cfg_model.specs.Cfg.{Cfg, IsRule}
+use Rattle.cfg_model.specs.Cfg.{Cfg}
 use Rattle.cfg_model.specs.Items.{Item}
 use Rattle.cfg_model.specs.Cores.{FirstMet}
 use Rattle.lalr_look.specs.Rising.{Met, Climbs, ends, climbs}
@@ -20,6 +19,7 @@ cut [] n (x ∷ a) b m e =
   where
     tail_is : (x y : ℕ) (u v : List ℕ) → x ∷ u ≡ y ∷ v → u ≡ v
     tail_is x y u v e = cc
+
     no_empty : (a : List ℕ) (m : ℕ) (b : List ℕ) → [] ≡ a ++ (m ∷ b) → ⊥
     no_empty [] m b e = cc
     no_empty (x ∷ a) m b e = cc
@@ -31,6 +31,7 @@ cut (x ∷ ns) n (y ∷ a) b m e =
   where
     tail_is : (x y : ℕ) (u v : List ℕ) → x ∷ u ≡ y ∷ v → u ≡ v
     tail_is x y u v e = cc
+
     longer : (x y : ℕ) (ns : List ℕ) (n : ℕ) (a b : List ℕ) (m : ℕ) → x ≡ y → Cut ns n a b m → Cut (x ∷ ns) n (y ∷ a) b m
     longer x y ns n a b m h (before c e) = before c (ap₂ (λ u v. u ∷ v) h e)
     longer x y ns n a b m h (last e f) = last (ap₂ (λ u v. u ∷ v) (sym h) e) f
@@ -53,6 +54,7 @@ meet_next ns count t =
   where
     which : (k c : ℕ) → k < c + 1 → (k < c) ⊎ (k ≡ c)
     which k c l = grind arith
+
     go : (k : ℕ) → (k < count) ⊎ (k ≡ count) → Contains (ns ++ (count ∷ [])) k
     go k (inl l) = Contains-append_left ns (count ∷ []) k (t.each k l)
     go k (inr e) = Contains-append_right ns (count ∷ []) k (0, omega arith, sym e)

@@ -1,5 +1,5 @@
 -- Rows of numbers of which one changed.
-use Rattle.std.proofs.Common.{◌≡◌, ◌≢◌, ℕ, zero, suc, ◌+◌, ◌<◌, ◌⊎◌, inl, inr, List, [], ◌∷◌, ◌++◌, length, refl, sym, ap, subst, ◌∙◌, arith, slice_set, map, slice_index_or, Vec, Global}
+use Rattle.std.proofs.Common.{◌≡◌, ◌≢◌, ℕ, zero, suc, ◌<◌, ◌⊎◌, List, [], ◌∷◌, ◌++◌, length, refl, sym, ap, ◌∙◌, arith, slice_set, Vec, Global}
 use Rattle.lalr_look.specs.Rows.{rows_of, row_at, Pushes, Takes}
 
 pub same_or_other : (k from : ℕ) → (k ≡ from) ⊎ (k ≢ from)
@@ -26,8 +26,11 @@ rows_count (r ∷ rows) (suc k) row = ap suc (rows_count rows k row)
 pub pushed : (rows : List (Vec ℕ Global)) (k n : ℕ) (before after : Vec ℕ Global) → k < length rows
     → row_at (rows_of rows) k ≡ before.items → after.items ≡ before.items ++ (n ∷ []) → Pushes (rows_of rows) (rows_of (slice_set rows k after)) k n
 pushed rows k n before after low old new =
-    record { size = rows_count rows k after; here = row_here rows k after low ∙ (new ∙ ap (λ l. l ++ (n ∷ [])) (sym old));
-             elsewhere = λ i differ. row_elsewhere rows k i after differ }
+    record {
+      size = rows_count rows k after;
+      here = row_here rows k after low ∙ (new ∙ ap (λ l. l ++ (n ∷ [])) (sym old));
+      elsewhere = λ i differ. row_elsewhere rows k i after differ;
+    }
 
 pub taken : (rows : List (Vec ℕ Global)) (k : ℕ) (before after : Vec ℕ Global)
     → row_at (rows_of rows) k ≡ before.items → Takes (rows_of rows) (rows_of (slice_set rows k after)) k before.items

@@ -1,19 +1,18 @@
 -- What going through the symbols of a core gives.
-use Rattle.std.proofs.Common.{◌≡◌, ◌≢◌, ℕ, zero, suc, ◌+◌, ◌*◌, ◌/◌, ◌%◌, ◌<◌, ◌≤◌, ◌↔◌, ◌⊎◌, inl, inr, List, [], ◌∷◌, ◌++◌, length, refl, sym, ap, ap₂, subst, subst₂, ◌∙◌, arith, slice_get, Option, Some, None, Contains, get_or, All, drop, map, length-append}
+use Rattle.std.proofs.Common.{◌≡◌, ◌≢◌, ℕ, zero, suc, ◌+◌, ◌<◌, ◌⊎◌, inl, inr, List, [], ◌∷◌, ◌++◌, length, refl, sym, ap, subst, subst₂, ◌∙◌, arith, slice_get, Some, Contains, map, length-append}
 use Rattle.std.proofs.lemmas.List.Elements.{Contains-append_left, Contains-append_right, Contains-append_cases}
 use Rattle.std.proofs.lemmas.List.{map-append}
-use Rattle.std.proofs.lemmas.Option.{slice_get-get_or, slice_get_within, get_or_from_slice_get}
+use Rattle.std.proofs.lemmas.Option.{slice_get_within}
 use Rattle.lalr_look.specs.Numbered.{Interns}
 use Rattle.lalr_look.proofs.Numbering.{value_of_longer}
 use Rattle.cfg_model.specs.declared.symbol.Sym.{Sym}
 use Rattle.cfg_model.specs.declared.symbol.Sym.TheVariants.{T, N}
-use Rattle.cfg_model.specs.Cfg.{Cfg, Rule, IsRule, IsSymbol, IsGrammar}
-use Rattle.cfg_model.specs.Items.{Item}
+use Rattle.cfg_model.specs.Cfg.{Cfg, IsSymbol, IsGrammar}
 use Rattle.cfg_model.specs.Cores.{Before, Rising}
-use Rattle.lalr_look.specs.Rising.{Met, Climbs}
+use Rattle.lalr_look.specs.Rising.{Met}
 use Rattle.lalr_look.proofs.Ordered.{meet_known, meet_next}
-use Rattle.lalr_look.proofs.Turns.{contained, placed, this_or_less}
-use Rattle.lalr_look.proofs.OfPrefix.{moved_kernel, moved_nothing, symbol_after, one_kernel, symbol_one}
+use Rattle.lalr_look.proofs.Turns.{contained, this_or_less}
+use Rattle.lalr_look.proofs.OfPrefix.{moved_kernel, moved_nothing, symbol_after, symbol_one}
 use Rattle.lalr_look.specs.Kernel.{HasItem, IsItems, IsKernel, Moves, Rows, place_of, Numbered}
 
 -- what interning does to a list of kernels
@@ -56,6 +55,7 @@ interns_apart old new name n (Interns.added absent e at) apart i j k a b =
   where
     no_name : (m : ℕ) → slice_get old m ≡ Some k → name ≡ k → ⊥
     no_name m is same = absent (contained old m name (is ∙ ap (λ x. Some x) (sym same)))
+
     go : (slice_get old i ≡ Some k) ⊎ ((i ≡ length old) × (name ≡ k)) → (slice_get old j ≡ Some k) ⊎ ((j ≡ length old) × (name ≡ k)) → i ≡ j
     go (inl l) (inl r) = apart i j k l r
     go (inl l) (inr (r, s)) = absurd (no_name i l s)
@@ -75,12 +75,12 @@ before_of g (T a) (N b) ok fine low = omega arith
 before_of g (N a) (T b) ok fine low = absurd (omega (arith, fine, low))
 before_of g (N a) (N b) ok fine low = omega (arith, low)
 
-rising_on : (row : List (Sym × ℕ)) (x : Sym) (m : ℕ) → Rising row → ((y : Sym) (n : ℕ) → Contains row (y , n) → Before y x) → Rising (row ++ ((x , m) ∷ []))
+rising_on : (row : List (Sym × ℕ)) (x : Sym) (m : ℕ) → Rising row → ((y : Sym) (n : ℕ) → Contains row (y, n) → Before y x) → Rising (row ++ ((x, m) ∷ []))
 rising_on row x m Rising.none below = Rising.one x m
 rising_on row x m (Rising.one y n) below = Rising.more y x n m [] (below y n (0, omega arith, refl)) (Rising.one x m)
 rising_on row x m (Rising.more y z n k rest low up) below =
-    Rising.more y z n k (rest ++ ((x , m) ∷ [])) low
-        (rising_on ((z , k) ∷ rest) x m up (λ w j c. below w j (further (y , n) (w , j) ((z , k) ∷ rest) c)))
+    Rising.more y z n k (rest ++ ((x, m) ∷ [])) low
+    (rising_on ((z, k) ∷ rest) x m up (λ w j c. below w j (further (y, n) (w, j) ((z, k) ∷ rest) c)))
   where
     further : (a b : Sym × ℕ) (l : List (Sym × ℕ)) → Contains l b → Contains (a ∷ l) b
     further a b l (i, low, is) = (suc i, omega (arith, low), is)
@@ -89,8 +89,8 @@ pub record RowFacts (g : Cfg) (p : List Sym) (old : List (List ℕ)) (i : ℕ) (
   pub kept : (m : ℕ) (k : List ℕ) → slice_get old m ≡ Some k → slice_get known m ≡ Some k
   pub whose : (m : ℕ) (k : List ℕ) → slice_get known m ≡ Some k → (slice_get old m ≡ Some k) ⊎ ((q : List Sym) × IsKernel g q k)
   pub apart : AllApart old → AllApart known
-  pub only : (x : Sym) (m : ℕ) → Contains row (x , m) → (place_of g x < i) × IsSymbol g x × Numbered g known (x ∷ p) m
-  pub all : (x : Sym) → place_of g x < i → HasItem g (x ∷ p) → (m : ℕ) × Contains row (x , m)
+  pub only : (x : Sym) (m : ℕ) → Contains row (x, m) → (place_of g x < i) × IsSymbol g x × Numbered g known (x ∷ p) m
+  pub all : (x : Sym) → place_of g x < i → HasItem g (x ∷ p) → (m : ℕ) × Contains row (x, m)
   pub rising : Rising row
   pub met : (ns : List ℕ) → Met ns (length old) → Met (ns ++ map (λ m. m.1) row) (length known)
 
@@ -105,11 +105,17 @@ append_twice (x ∷ a) b c = ap (λ l. x ∷ l) (append_twice a b c)
 no_row : (g : Cfg) → IsGrammar g → (p : List Sym) (items : List ℕ) (old known : List (List ℕ)) (row : List (Sym × ℕ)) (i : ℕ) → IsItems g p items
     → RowFacts g p old i known row → Moves g items i (length items) [] → RowFacts g p old (i + 1) known row
 no_row g ok p items old known row i is t m =
-    record { kept = t.kept; whose = t.whose; apart = t.apart; rising = t.rising; met = t.met;
-             only = λ x n c. (let (low, sign, num) = t.only x n c in (omega (arith, low), sign, num));
-             all = λ x low has. go x has (this_or_less (place_of g x) i low) }
+    record {
+      kept = t.kept;
+      whose = t.whose;
+      apart = t.apart;
+      rising = t.rising;
+      met = t.met;
+      only = λ x n c. (let (low, sign, num) = t.only x n c in (omega (arith, low), sign, num));
+      all = λ x low has. go x has (this_or_less (place_of g x) i low);
+    }
   where
-    go : (x : Sym) → HasItem g (x ∷ p) → (place_of g x < i) ⊎ (place_of g x ≡ i) → (m : ℕ) × Contains row (x , m)
+    go : (x : Sym) → HasItem g (x ∷ p) → (place_of g x < i) ⊎ (place_of g x ≡ i) → (m : ℕ) × Contains row (x, m)
     go x has (inl low) = t.all x low has
     go x has (inr e) = absurd (moved_nothing g ok p items i x is (symbol_after g ok p x has) e m has)
 
@@ -123,23 +129,27 @@ last_move row b c has = go (Contains-append_cases row (b ∷ []) c has)
 
 one_row : (g : Cfg) → IsGrammar g → (p : List Sym) (items : List ℕ) (old known after : List (List ℕ)) (row : List (Sym × ℕ)) (i m : ℕ) (x : Sym) (kernel : List ℕ)
     → IsItems g p items → RowFacts g p old i known row → Moves g items i (length items) kernel → kernel ≢ [] → Interns known after kernel m
-    → IsSymbol g x → place_of g x ≡ i → RowFacts g p old (i + 1) after (row ++ ((x , m) ∷ []))
+    → IsSymbol g x → place_of g x ≡ i → RowFacts g p old (i + 1) after (row ++ ((x, m) ∷ []))
 one_row g ok p items old known after row i m x kernel is t moves some interns sign at =
-    record { kept = λ n k l. interns_kept known after kernel m interns n k (t.kept n k l);
-             whose = λ n k l. whose n k (interns_only known after kernel m interns n k l);
-             apart = λ a. interns_apart known after kernel m interns (t.apart a);
-             only = λ z n c. only z n (last_move row (x , m) (z , n) c);
-             all = λ z low has. all z has (this_or_less (place_of g z) i low);
-             rising = rising_on row x m t.rising (λ y n c. (let (low, fine, num) = t.only y n c in before_of g y x fine sign (omega (arith, low, at))));
-             met = λ ns met. subst (λ l. Met l (length after)) (append_twice ns (map (λ z. z.1) row) (m ∷ []) ∙ ap (λ l. ns ++ l) (sym (map-append (λ z. z.1) row ((x , m) ∷ []))))
-                 (interns_met known after kernel m interns (ns ++ map (λ z. z.1) row) (t.met ns met)) }
+    record {
+      kept = λ n k l. interns_kept known after kernel m interns n k (t.kept n k l);
+      whose = λ n k l. whose n k (interns_only known after kernel m interns n k l);
+      apart = λ a. interns_apart known after kernel m interns (t.apart a);
+      only = λ z n c. only z n (last_move row (x, m) (z, n) c);
+      all = λ z low has. all z has (this_or_less (place_of g z) i low);
+      rising = rising_on row x m t.rising (λ y n c. (let (low, fine, num) = t.only y n c in before_of g y x fine sign (omega (arith, low, at))));
+      met = λ ns met. subst (λ l. Met l (length after)) (append_twice ns (map (λ z. z.1) row) (m ∷ []) ∙ ap (λ l. ns ++ l) (sym (map-append (λ z. z.1) row ((x, m) ∷ []))))
+          (interns_met known after kernel m interns (ns ++ map (λ z. z.1) row) (t.met ns met));
+    }
   where
     here : IsKernel g (x ∷ p) kernel
     here = moved_kernel g ok p items i kernel x is sign at moves some
+
     whose : (n : ℕ) (k : List ℕ) → (slice_get known n ≡ Some k) ⊎ (k ≡ kernel) → (slice_get old n ≡ Some k) ⊎ ((q : List Sym) × IsKernel g q k)
     whose n k (inl l) = t.whose n k l
     whose n k (inr e) = inr (x ∷ p, subst (λ l. IsKernel g (x ∷ p) l) (sym e) here)
-    only : (z : Sym) (n : ℕ) → Contains row (z , n) ⊎ (◌≡◌ {A = Sym × ℕ} (z , n) (x , m)) → (place_of g z < i + 1) × IsSymbol g z × Numbered g after (z ∷ p) n
+
+    only : (z : Sym) (n : ℕ) → Contains row (z, n) ⊎ (◌≡◌ {A = Sym × ℕ} (z, n) (x, m)) → (place_of g z < i + 1) × IsSymbol g z × Numbered g after (z ∷ p) n
     only z n (inl c) =
         let (low, fine, (k, l, kern)) = t.only z n c in
         (omega (arith, low), fine, (k, interns_kept known after kernel m interns n k l, kern))
@@ -147,19 +157,26 @@ one_row g ok p items old known after row i m x kernel is t moves some interns si
         let same : z ≡ x = ap (λ a. a.0) e in
         let number : n ≡ m = ap (λ a. a.1) e in
         subst₂ (λ u v. (place_of g u < i + 1) × IsSymbol g u × Numbered g after (u ∷ p) v) (sym same) (sym number)
-            (omega (arith, at), sign, (kernel, interns_there known after kernel m interns, here))
-    all : (z : Sym) → HasItem g (z ∷ p) → (place_of g z < i) ⊎ (place_of g z ≡ i) → (n : ℕ) × Contains (row ++ ((x , m) ∷ [])) (z , n)
-    all z has (inl low) = let (n, c) = t.all z low has in (n, Contains-append_left row ((x , m) ∷ []) (z , n) c)
+        (omega (arith, at), sign, (kernel, interns_there known after kernel m interns, here))
+
+    all : (z : Sym) → HasItem g (z ∷ p) → (place_of g z < i) ⊎ (place_of g z ≡ i) → (n : ℕ) × Contains (row ++ ((x, m) ∷ [])) (z, n)
+    all z has (inl low) = let (n, c) = t.all z low has in (n, Contains-append_left row ((x, m) ∷ []) (z, n) c)
     all z has (inr e) =
         let same : z ≡ x = symbol_one g z x (symbol_after g ok p z has) sign (e ∙ sym at) in
-        (m, Contains-append_right row ((x , m) ∷ []) (z , m) (0, omega arith, ap (λ u. (u , m)) (sym same)))
+        (m, Contains-append_right row ((x, m) ∷ []) (z, m) (0, omega arith, ap (λ u. (u, m)) (sym same)))
 
 pub row_facts : (g : Cfg) → IsGrammar g → (p : List Sym) (items : List ℕ) (old known : List (List ℕ)) (row : List (Sym × ℕ)) (i : ℕ) → IsItems g p items
     → Rows g items old i known row → RowFacts g p old i known row
 row_facts g ok p items old known row i is Rows.at_first =
-    record { kept = λ m k l. l; whose = λ m k l. inl l; apart = λ a. a; only = λ x m c. absurd (let low = c.1 in omega (arith, low));
-             all = λ x low. absurd (omega (arith, low)); rising = Rising.none;
-             met = λ ns met. subst (λ l. Met l (length old)) (sym (append_none ns)) met }
+    record {
+      kept = λ m k l. l;
+      whose = λ m k l. inl l;
+      apart = λ a. a;
+      only = λ x m c. absurd (let low = c.1 in omega (arith, low));
+      all = λ x low. absurd (omega (arith, low));
+      rising = Rising.none;
+      met = λ ns met. subst (λ l. Met l (length old)) (sym (append_none ns)) met;
+    }
 row_facts g ok p items old known row i is (Rows.none j _ _ rows m) =
     no_row g ok p items old known row j is (row_facts g ok p items old known row j is rows) m
 row_facts g ok p items old known row i is (Rows.one j m x kernel before _ start rows moves some interns sign at) =

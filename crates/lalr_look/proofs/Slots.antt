@@ -1,8 +1,7 @@
 -- What the slot of an item says of it.
-use Rattle.std.proofs.Common.{◌≡◌, ℕ, zero, suc, ◌+◌, ◌<◌, ◌≤◌, List, [], ◌∷◌, length, refl, sym, ap, subst, ◌∙◌, arith, slice_get, Some, get_or}
+use Rattle.std.proofs.Common.{◌≡◌, ℕ, suc, ◌<◌, List, ◌∷◌, refl, ap, subst, ◌∙◌, arith}
 use Rattle.std.proofs.lemmas.Option.{slice_get_within, get_or_from_slice_get}
 use Rattle.cfg_model.specs.declared.symbol.Sym.{Sym}
-use Rattle.cfg_model.specs.declared.symbol.Sym.TheVariants.{T, N}
 use Rattle.cfg_model.specs.Cfg.{Cfg, Rule, IsRule, IsGrammar}
 use Rattle.cfg_model.specs.Valid.{Valid, start, closure, move}
 use Rattle.cfg_model.proofs.ItemsOfCores.{item_of}

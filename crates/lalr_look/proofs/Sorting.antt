@@ -1,12 +1,11 @@
 -- Items sorted by the symbols behind their dots.
-use Rattle.std.proofs.Common.{◌≡◌, ◌≢◌, ℕ, zero, suc, ◌+◌, ◌/◌, ◌%◌, ◌<◌, ◌≤◌, ◌⊎◌, inl, inr, List, [], ◌∷◌, ◌++◌, length, refl, sym, ap, subst, subst₂, ◌∙◌, arith, slice_get, Some, None, get_or}
+use Rattle.std.proofs.Common.{◌≡◌, ◌≢◌, ℕ, ◌+◌, ◌/◌, ◌%◌, ◌<◌, ◌≤◌, ◌⊎◌, inl, inr, List, [], ◌∷◌, ◌++◌, length, refl, sym, ap, subst, ◌∙◌, arith, slice_get, Some, None, get_or}
 use Rattle.std.proofs.lemmas.Option.{slice_get-get_or}
 use Rattle.cfg_model.specs.declared.symbol.Sym.{Sym}
-use Rattle.cfg_model.specs.declared.symbol.Sym.TheVariants.{T, N}
 use Rattle.cfg_model.specs.Cfg.{Cfg}
 use Rattle.cfg_model.specs.Items.{right_of}
 use Rattle.lalr_look.specs.Rows.{row_at, Pushes, Takes}
-use Rattle.lalr_look.specs.Kernel.{NextIs, NextAt, SortsTo, Sorts, put, left, place_of, Moves, Rows}
+use Rattle.lalr_look.specs.Kernel.{NextIs, SortsTo, Sorts, put, left, place_of, Moves}
 use Rattle.lalr_look.proofs.RowsChanged.{same_or_other}
 
 -- an item with a symbol behind its dot
@@ -35,6 +34,7 @@ sorted_next g items j d old new low so_far sorts i = go (sorts i)
   where
     at : slice_get items j ≡ Some (get_or items j d)
     at = slice_get-get_or items j d low
+
     go : SortsTo g (get_or items j d) i (row_at old i) (row_at new i) → Moves g items i (j + 1) (row_at new i)
     go (put next e) = subst (λ l. Moves g items i (j + 1) l) (sym e) (Moves.moved j _ (row_at old i) (so_far i) at next)
     go (left not_next e) = subst (λ l. Moves g items i (j + 1) l) (sym e) (Moves.passed j _ (row_at old i) (so_far i) at not_next)

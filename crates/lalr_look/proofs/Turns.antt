@@ -1,14 +1,12 @@
 -- One more turn of each loop over cores.
-use Rattle.std.proofs.Common.{◌≡◌, ◌≢◌, ℕ, zero, suc, ◌+◌, ◌<◌, ◌≤◌, ◌↔◌, ◌⊎◌, inl, inr, List, [], ◌∷◌, ◌++◌, length, refl, sym, ap, subst, subst₂, ◌∙◌, arith, slice_get, Some, Contains, get_or, IsTrue}
+use Rattle.std.proofs.Common.{◌≡◌, ℕ, ◌+◌, ◌<◌, ◌≤◌, ◌↔◌, ◌⊎◌, inl, inr, List, [], ◌∷◌, ◌++◌, length, refl, sym, ap, subst, ◌∙◌, arith, slice_get, Some, Contains, get_or}
 use Rattle.std.proofs.lemmas.Option.{slice_get-get_or, slice_get_within, get_or_from_slice_get}
-use Rattle.ck_base.specs.BitSet.{BitSet, Has, Adds, IsEmpty}
+use Rattle.ck_base.specs.BitSet.{BitSet, Has, Adds}
 use Rattle.lalr_look.specs.Numbered.{Interns}
 use Rattle.cfg_model.specs.declared.symbol.Sym.{Sym}
-use Rattle.cfg_model.specs.declared.symbol.Sym.TheVariants.{T, N}
-use Rattle.cfg_model.specs.Cfg.{Cfg, Rule, IsRule, IsSymbol}
-use Rattle.cfg_model.specs.Items.{right_of}
-use Rattle.lalr_look.specs.Flow.{set_at}
-use Rattle.lalr_look.specs.Kernel.{NextIs, NextAt, Calls, CalledAt, CalledBy, Moves, Opens, Rows, place_of, callers, front_of, IsOpened}
+use Rattle.cfg_model.specs.declared.symbol.Sym.TheVariants.{N}
+use Rattle.cfg_model.specs.Cfg.{Cfg, Rule, IsSymbol}
+use Rattle.lalr_look.specs.Kernel.{NextIs, Calls, CalledAt, CalledBy, Moves, Opens, Rows, place_of, IsOpened}
 
 -- the nonterminals that the first items call
 abbrev pub CalledFirst : Cfg → List ℕ → ℕ → ℕ → Type 0
@@ -24,6 +22,7 @@ call_on g front k c old new so_far adds at n = (λ has. there (adds.only n has),
     there : Has old n ⊎ CalledAt g c n → CalledFirst g front (k + 1) n
     there (inl h) = let (j, b, low, is, calls) = (so_far n).0 h in (j, b, omega (arith, low), is, calls)
     there (inr calls) = (k, c, omega arith, at, calls)
+
     back : CalledFirst g front (k + 1) n → Has new n
     back (j, b, low, is, calls) = go (this_or_less j k low)
       where
@@ -42,22 +41,28 @@ placed l j c low is = slice_get-get_or l j c low ∙ ap Some is
 
 pub called_all : (g : Cfg) (front : List ℕ) (k : ℕ) (set : BitSet) → ((n : ℕ) → Has set n ↔ CalledFirst g front k n) → length front ≤ k
     → (n : ℕ) → Has set n ↔ CalledBy g front n
-called_all g front k set so_far all n =
-    (λ has. (let (j, c, low, is, calls) = (so_far n).0 has in
-        record { item = c; from = calls.0; stands = contained front j c is; next = calls.1; calls = calls.2 }),
-     λ called. (let (j, low, is) = called.stands in
-        (so_far n).1 (j, called.item, omega (arith, low, all), placed front j called.item low is, (called.from, called.next, called.calls))))
+called_all g front k set so_far all n = (
+  λ has. (let (j, c, low, is, calls) = (so_far n).0 has in
+      record { item = c; from = calls.0; stands = contained front j c is; next = calls.1; calls = calls.2 }),
+  λ called. (let (j, low, is) = called.stands in
+      (so_far n).1 (j, called.item, omega (arith, low, all), placed front j called.item low is, (called.from, called.next, called.calls))),
+)
 
 -- what one item calls
 pub adds_called : (g : Cfg) (c m : ℕ) (old new from : BitSet) → NextIs g c (N m) → ((n : ℕ) → Has from n ↔ Calls g m n)
     → Adds old new (Has from) → Adds old new (CalledAt g c)
 adds_called g c m old new from next is adds =
-    record { size = adds.size; only = λ i has. go i (adds.only i has); kept = adds.kept;
-             more = λ i called. adds.more i ((is i).1 (subst (λ k. Calls g k i) (same called.0 called.1) called.2)) }
+    record {
+      size = adds.size;
+      only = λ i has. go i (adds.only i has);
+      kept = adds.kept;
+      more = λ i called. adds.more i ((is i).1 (subst (λ k. Calls g k i) (same called.0 called.1) called.2));
+    }
   where
     go : (i : ℕ) → Has old i ⊎ Has from i → Has old i ⊎ CalledAt g c i
     go i (inl h) = inl h
     go i (inr h) = inr (m, next, (is i).0 h)
+
     same : (k : ℕ) → NextIs g c (N k) → k ≡ m
     same k other = (let one : Some (N k) ≡ Some (N m) = sym other ∙ next in cc)
 
@@ -72,18 +77,23 @@ row_none g items first known row i (c ∷ kernel) m e rows = absurd (omega (arit
 
 pub row_one : (g : Cfg) (items : List ℕ) (first known after : List (List ℕ)) (row longer : List (Sym × ℕ)) (i m : ℕ) (x : Sym) (kernel : List ℕ)
     → Moves g items i (length items) kernel → 0 < length kernel → Interns known after kernel m → IsSymbol g x → place_of g x ≡ i
-    → longer ≡ row ++ ((x , m) ∷ []) → Rows g items first i known row → Rows g items first (i + 1) after longer
+    → longer ≡ row ++ ((x, m) ∷ []) → Rows g items first i known row → Rows g items first (i + 1) after longer
 row_one g items first known after row longer i m x kernel moves some interns sym_ok at e rows =
     subst (λ l. Rows g items first (i + 1) after l) (sym e)
-        (Rows.one i m x kernel known after row rows moves
-            (λ none. (let l : length kernel ≡ 0 = ap length none in omega (arith, l, some))) interns sym_ok at)
+    (Rows.one i m x kernel known after row rows moves
+    (λ none. (let l : length kernel ≡ 0 = ap length none in omega (arith, l, some))) interns sym_ok at)
 
 pub opened_first : (g : Cfg) (called : BitSet) (front items whole : List ℕ)
     → ((n : ℕ) → Has called n ↔ CalledBy g (0 ∷ []) n) → front ≡ 0 ∷ [] → Opens g called front (length g.rules) items
     → (kernel : List ℕ) → length kernel ≡ 0 → IsOpened g kernel items
 opened_first g called front items whole calls is opens [] e =
-    record { called = called; calls = calls; front = items; opens = subst (λ l. Opens g called l (length g.rules) items) is opens;
-             whole = append_empty items }
+    record {
+      called = called;
+      calls = calls;
+      front = items;
+      opens = subst (λ l. Opens g called l (length g.rules) items) is opens;
+      whole = append_empty items;
+    }
   where
     append_empty : (l : List ℕ) → l ≡ l ++ []
     append_empty [] = refl
@@ -95,8 +105,13 @@ pub opened_next : (g : Cfg) (called : BitSet) (front items whole kernel : List �
     → 0 < length kernel → whole ≡ items ++ kernel → IsOpened g kernel whole
 opened_next g called front items whole [] calls is opens some e = absurd (omega (arith, some))
 opened_next g called front items whole (c ∷ kernel) calls is opens some e =
-    record { called = called; calls = calls; front = items; opens = subst (λ l. Opens g called l (length g.rules) items) is opens;
-             whole = e }
+    record {
+      called = called;
+      calls = calls;
+      front = items;
+      opens = subst (λ l. Opens g called l (length g.rules) items) is opens;
+      whole = e;
+    }
 
 pub open_on : (g : Cfg) (called : BitSet) (front items after : List ℕ) (j : ℕ) (one : Rule) → Opens g called front j items
     → slice_get g.rules j ≡ Some one → Has called one.left → after ≡ items ++ ((j + 1) ∷ []) → Opens g called front (j + 1) after

@@ -1,15 +1,13 @@
 -- Items as numbers, kernels, and what the loops over cores leave.
-use Rattle.std.specs.Prelude.{◌≡◌, ◌≢◌, ℕ, zero, suc, ◌+◌, ◌*◌, ◌/◌, ◌%◌, ◌<◌, ◌≤◌, ◌↔◌, ◌⊎◌, List, [], ◌∷◌, ◌++◌, length, slice_get, Some, None, Contains, map, All, ⊤}
+use Rattle.std.specs.Prelude.{◌≡◌, ◌≢◌, ℕ, suc, ◌+◌, ◌*◌, ◌/◌, ◌%◌, ◌<◌, ◌≤◌, ◌↔◌, List, [], ◌∷◌, ◌++◌, length, slice_get, Some, Contains, map, All}
 use Rattle.ck_base.specs.BitSet.{BitSet, Has}
 use Rattle.lalr_look.specs.Numbered.{Interns}
 use Rattle.cfg_model.specs.declared.symbol.Sym.{Sym}
 use Rattle.cfg_model.specs.declared.symbol.Sym.TheVariants.{T, N}
 use Rattle.cfg_model.specs.Cfg.{Cfg, Rule, IsRule, IsSymbol}
-use Rattle.cfg_model.specs.declared.refused.LalrError.{LalrError}
-use Rattle.cfg_model.specs.declared.refused.LalrError.TheVariants as fault
 use Rattle.cfg_model.specs.Items.{Item, right_of}
 use Rattle.lalr_look.specs.Rows.{row_at}
-use Rattle.cfg_model.specs.Cores.{CoreList, items_at, moves_at, Rising, targets, HasMoreCores}
+use Rattle.cfg_model.specs.Cores.{CoreList, items_at, moves_at, Rising, targets}
 use Rattle.lalr_look.specs.Rising.{Met, Climbs}
 
 -- right sides are short enough for items to be numbers
@@ -119,7 +117,7 @@ pub data Rows (g : Cfg) (items : List ℕ) (old : List (List ℕ)) : ℕ → Lis
       → Moves g items i (length items) [] → Rows g items old (i + 1) known row
   one : (i m : ℕ) (x : Sym) (kernel : List ℕ) (known after : List (List ℕ)) (row : List (Sym × ℕ)) → Rows g items old i known row
       → Moves g items i (length items) kernel → kernel ≢ [] → Interns known after kernel m → IsSymbol g x → place_of g x ≡ i
-      → Rows g items old (i + 1) after (row ++ ((x , m) ∷ []))
+      → Rows g items old (i + 1) after (row ++ ((x, m) ∷ []))
 
 -- the known kernel of the prefix has this number
 abbrev pub Numbered : Cfg → List (List ℕ) → List Sym → ℕ → Type 0
@@ -133,26 +131,17 @@ pub record Going (g : Cfg) (known : List (List ℕ)) (made : CoreList) : Type 0 
   pub sizes : length made.moves ≡ length made.items
   pub single : (n i j : ℕ) (item : ℕ × ℕ) → slice_get (items_at made n) i ≡ Some item → slice_get (items_at made n) j ≡ Some item → i ≡ j
   pub items : (j : ℕ) (p : List Sym) → j < length made.items → Numbered g known p j
-      → (r d : ℕ) → Contains (items_at made j) (r , d) ↔ ((y : List Sym) × Item g p r d y)
+      → (r d : ℕ) → Contains (items_at made j) (r, d) ↔ ((y : List Sym) × Item g p r d y)
   pub leads : (j : ℕ) (p : List Sym) (x : Sym) (m : ℕ) → j < length made.items → Numbered g known p j
-      → Contains (moves_at made j) (x , m) → Numbered g known (x ∷ p) m
+      → Contains (moves_at made j) (x, m) → Numbered g known (x ∷ p) m
   pub goes : (j : ℕ) (p : List Sym) (x : Sym) → j < length made.items → Numbered g known p j
-      → HasItem g (x ∷ p) → (m : ℕ) × Contains (moves_at made j) (x , m)
+      → HasItem g (x ∷ p) → (m : ℕ) × Contains (moves_at made j) (x, m)
   pub rising : (j : ℕ) → Rising (moves_at made j)
   pub met : Met (0 ∷ targets made.moves) (length known)
 
 -- the items of these numbers, as rule and place of the dot
 abbrev pub pairs : List ℕ → List (ℕ × ℕ)
-pairs items = map (λ c. (c % 2048 , c / 2048)) items
-
--- why there are no cores: want of memory, or too many
-abbrev pub NoCores : Cfg → LalrError → Type 0
-NoCores g fault.NoMemory = ⊤
-NoCores g fault.TooManyStates = HasMoreCores g 4096
-NoCores g (fault.Unproductive n) = ⊥
-NoCores g (fault.Cyclic n) = ⊥
-NoCores g (fault.HiddenLeft n) = ⊥
-NoCores g (fault.LalrConflict t r o) = ⊥
+pairs items = map (λ c. (c % 2048, c / 2048)) items
 
 -- the rule at this place is n's and begins with k
 abbrev pub CallsAt : Cfg → ℕ → ℕ → ℕ → Type 0

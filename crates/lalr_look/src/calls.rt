@@ -20,8 +20,12 @@ fn add_call(g: &Grammar, edges: &mut Vec<Vec<u32>>, i: u32) -> Result<(), NoMemo
     ensures edge { OnOk result ((k n : ℕ) → Edge (rows_of edges.new.items) k n ↔ (Edge (rows_of edges.old.items) k n ⊎ CallsAt g.now i k n)) }
 {
     let one = g.rule(i);
-    let Some(symbol) = one.symbol(0) else { return Ok(()); };
-    let Sym::N(k) = symbol else { return Ok(()); };
+    let Some(symbol) = one.symbol(0) else {
+        return Ok(());
+    };
+    let Sym::N(k) = symbol else {
+        return Ok(());
+    };
     push_at(edges, k, one.left)?;
     Ok(())
 }

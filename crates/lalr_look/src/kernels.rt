@@ -29,7 +29,9 @@ impl Kernels {
     pub fn new(alloc: Global) -> Kernels
         ensures { result ≡ [] }
     {
-        Kernels { kernels: IndexSet::new(alloc) }
+        Kernels {
+            kernels: IndexSet::new(alloc),
+        }
     }
 
     /// The number of the kernel: its old one, else the next.

@@ -1,15 +1,31 @@
-//! Lookaheads.
+//! The LALR(1) automaton of a grammar: its cores with their moves, and the united lookaheads of their
+//! items.
+//!
+//! | what | file |
+//! |---|---|
+//! | what cores, lookaheads and their numbering are | `specs/Valid.antt`, `specs/Cores.antt` of `cfg_model` |
+//! | what the calls give | `specs/Promise.antt` |
+//! | the cores' type | `src/core_list.rt` |
+//! | cores: kernels by a map, moves in one pass over the items | `src/making.rt`, `src/kernels.rt` |
+//! | which nonterminals a nonterminal calls | `src/calls.rt` |
+//! | items as numbers, kernels; what the loops over cores leave | `specs/Kernel.antt` |
+//! | each core is found, once, in the order in which it is first met | `proofs/OfPrefix.antt`, `RowsOf.antt`, `Grown.antt` |
+//! | lookaheads: the graph that they flow along, its making | `src/uniting.rt`, `src/nodes.rt`, `src/graph.rt`, `src/rests.rt`; `specs/LookGraph.antt` |
+//! | numbers that flow along edges, by a work list | `src/flow.rt`; `specs/Flow.antt`, `proofs/Flowing.antt` |
+//! | what flows is what spreads over the cores | `proofs/Looking.antt`; the graph is that one: `proofs/Demands.antt`, `NodesOf.antt` |
 #![tactic(auto)]
 
 mod calls;
 mod core_list;
 mod flow;
+mod graph;
 mod kernels;
 mod making;
 mod nodes;
+mod rests;
 mod rows;
+mod uniting;
 
 pub use core_list::Cores;
 pub use making::cores;
-pub use flow::{spread, join_at};
-pub use kernels::Kernels;
+pub use uniting::lookaheads;

@@ -5,7 +5,8 @@ ghost use Rattle.cfg_model.specs.Sets.{AllProductive};
 ghost use Rattle.cfg_model.specs.Cores.{IsCores, HasMoreCores};
 ghost use Rattle.lalr_look.specs.Flow.{set_at};
 ghost use Rattle.lalr_look.specs.Rows.{rows_of, row_at};
-ghost use Rattle.lalr_look.specs.Kernel.{AreShort, IsInside, Sorts, Calls, CalledAt, CalledBy, Moves, Opens, Rows, IsOpened, Going, NoCores, pairs, place_of};
+ghost use Rattle.lalr_look.specs.Kernel.{AreShort, IsInside, Sorts, Calls, CalledAt, CalledBy, Moves, Opens, Rows, IsOpened, Going, pairs, place_of};
+ghost use Rattle.lalr_look.specs.Promise.{NoCores};
 
 use crate::calls::calls_of;
 use crate::core_list::Cores;
@@ -28,7 +29,7 @@ fn symbol_at(g: &Grammar, i: u32) -> Sym
 }
 
 /// The symbol's place in the order: terminals before nonterminals, each by number.
-fn order_of(g: &Grammar, symbol: Sym) -> u32
+pub(crate) fn order_of(g: &Grammar, symbol: Sym) -> u32
     requires grammar { IsGrammar g.now }
     requires symbol { IsSymbol g.now symbol }
     ensures inside { result < g.now.terminals + g.now.nonterminals }
@@ -48,7 +49,9 @@ fn sort_in(g: &Grammar, item: u32, rows: &mut Vec<Vec<u32>>) -> Result<(), NoMem
     ensures long { OnOk result (length rows.new.items ≡ length rows.old.items) }
     ensures sorted { OnOk result (Sorts g.now item (rows_of rows.old.items) (rows_of rows.new.items)) }
 {
-    let Some(symbol) = g.behind(item % 2048, item / 2048) else { return Ok(()); };
+    let Some(symbol) = g.behind(item % 2048, item / 2048) else {
+        return Ok(());
+    };
     push_at(rows, order_of(g, symbol), item + 2048)?;
     Ok(())
 }
@@ -113,7 +116,12 @@ fn open_rules(g: &Grammar, called: &Bits, items: &mut Vec<u32>) -> Result<(), No
 }
 
 /// The items of a kernel's core.
-fn items_of(alloc: Global, g: &Grammar, calls: &[Bits], kernel: &[u32]) -> Result<Vec<u32>, NoMemory>
+fn items_of(
+    alloc: Global,
+    g: &Grammar,
+    calls: &[Bits],
+    kernel: &[u32],
+) -> Result<Vec<u32>, NoMemory>
     requires grammar { IsGrammar g.now }
     requires inside { All (IsInside g.now) kernel.now }
     requires sets { length calls.now ≡ g.now.nonterminals }
@@ -135,7 +143,13 @@ fn items_of(alloc: Global, g: &Grammar, calls: &[Bits], kernel: &[u32]) -> Resul
 }
 
 /// Numbers the kernel of the moved items, where there are some, and puts the move into the row.
-fn add_move(g: &Grammar, kernels: &mut Kernels, row: &mut Vec<(Sym, u32)>, i: u32, kernel: Vec<u32>) -> Result<(), NoMemory>
+fn add_move(
+    g: &Grammar,
+    kernels: &mut Kernels,
+    row: &mut Vec<(Sym, u32)>,
+    i: u32,
+    kernel: Vec<u32>,
+) -> Result<(), NoMemory>
     requires place { i < g.now.terminals + g.now.nonterminals }
     requires few { length kernels.old + 1 < 2 ^ 32 }
     ensures rows { OnOk result ((items : List ℕ) (first : List (List ℕ)) → Moves g.now items i (length items) kernel.items
@@ -151,7 +165,12 @@ fn add_move(g: &Grammar, kernels: &mut Kernels, row: &mut Vec<(Sym, u32)>, i: u3
 }
 
 /// The moves of a core.
-fn moves_of(alloc: Global, g: &Grammar, items: &[u32], kernels: &mut Kernels) -> Result<Vec<(Sym, u32)>, NoMemory>
+fn moves_of(
+    alloc: Global,
+    g: &Grammar,
+    items: &[u32],
+    kernels: &mut Kernels,
+) -> Result<Vec<(Sym, u32)>, NoMemory>
     requires grammar { IsGrammar g.now }
     requires inside { All (IsInside g.now) items.now }
     requires few { length kernels.old ≤ 4096 }
@@ -188,7 +207,14 @@ fn put(made: &mut Cores, items: Vec<(u32, u32)>, moves: Vec<(Sym, u32)>) -> Resu
 }
 
 /// Makes the core of this kernel.
-fn add_core(alloc: Global, g: &Grammar, calls: &[Bits], kernels: &mut Kernels, made: &mut Cores, n: u32) -> Result<(), NoMemory>
+fn add_core(
+    alloc: Global,
+    g: &Grammar,
+    calls: &[Bits],
+    kernels: &mut Kernels,
+    made: &mut Cores,
+    n: u32,
+) -> Result<(), NoMemory>
     requires grammar { IsGrammar g.now }
     requires short { AreShort g.now }
     requires sets { length calls.now ≡ g.now.nonterminals }
@@ -208,20 +234,40 @@ fn add_core(alloc: Global, g: &Grammar, calls: &[Bits], kernels: &mut Kernels, m
     Ok(())
 }
 
-/// The cores of a grammar, with their moves.
+/// Whether all right sides are short enough for items to be numbers.
+pub(crate) fn is_short(g: &Grammar) -> bool
+    requires { IsGrammar g.now }
+    ensures { IsTrue result ↔ AreShort g.now }
+{
+    for i in 0..g.size() {
+        let one = g.rule(i);
+        if one.symbol(1048575).is_some() {
+            return false;
+        }
+    }
+    true
+}
+
+/// The cores of a grammar, with their moves; TooManyStates where there are more than 4,096. Core 0 is
+/// that of the empty prefix. A right side of 1,048,576 symbols or more counts as want of memory.
 pub fn cores(alloc: Global, g: &Grammar) -> Result<Cores, LalrError>
     requires grammar { IsGrammar g.now }
     requires productive { AllProductive g.now }
-    requires short { AreShort g.now }
     ensures cores { IfOk result (λ made. IsCores g.now made) }
     ensures few { IfOk result (λ made. length made.items ≤ 4096) }
     ensures no_more { IfOk result (λ _. HasMoreCores g.now 4096 → ⊥) }
     ensures fault { IfErr result (NoCores g.now) }
 {
+    if !is_short(g) {
+        return Err(LalrError::NoMemory);
+    }
     let calls = calls_of(alloc, g)?;
     let mut kernels = Kernels::new(alloc);
     kernels.number_of(Vec::new(alloc))?;
-    let mut made = Cores { items: Vec::new(alloc), moves: Vec::new(alloc) };
+    let mut made = Cores {
+        items: Vec::new(alloc),
+        moves: Vec::new(alloc),
+    };
     let mut n = 0;
     while n < kernels.len() {
         add_core(alloc, g, &calls, &mut kernels, &mut made, n)?;

@@ -52,7 +52,8 @@ impl Nodes {
     /// The number of a node that is there.
     pub fn find(&self, node: (u32, u32)) -> u32
         requires { Contains self.now node }
-        ensures { slice_get self.now result ≡ Some node }
+        ensures there { slice_get self.now result ≡ Some node }
+        ensures one { (k : ℕ) → slice_get self.now k ≡ Some node → k ≡ result }
     {
         match self.nodes.get_index_of(&node) {
             Some(index) => index as u32,

@@ -1,8 +1,8 @@
-use Rattle.std.proofs.Common.{◌≡◌, ℕ, sym, ap, ◌∙◌, subst, refl, arith, length, ◌↔◌}
+use Rattle.std.proofs.Common.{◌≡◌, ℕ, ap, ◌∙◌, subst, arith, length, ◌↔◌}
 use Rattle.lalr_look.specs.Flow.{Edge}
 use Rattle.lalr_look.specs.Rows.{rows_of}
 use Rattle.lalr_look.specs.Kernel.{CallsFirst}
-use Rattle.lalr_look.proofs.Graph.{no_calls, call_next, no_edge}
+use Rattle.lalr_look.proofs.CallGraph.{no_calls, call_next, no_edge}
 use Rattle.lalr_look.proofs.calls.call_edges.Goals as goal
 
 pub loop-i-init : goal.loop-i-init
@@ -12,9 +12,10 @@ loop-i-init c =
 
 pub loop-i-preserved : goal.loop-i-preserved
 loop-i-preserved c =
-    let (long, so_far) = c.loop-i.invariant in
-    (c.in_ok-add_call.ensures.nodes ∙ long,
-     call_next c.args.g.now c.loop-i.i (rows_of c.loop-i.edges.items) (rows_of c.add_call.new.edges.items) so_far c.in_ok-add_call.ensures.edge)
+    let (long, so_far) = c.loop-i.invariant in (
+      c.in_ok-add_call.ensures.nodes ∙ long,
+      call_next c.args.g.now c.loop-i.i (rows_of c.loop-i.edges.items) (rows_of c.add_call.new.edges.items) so_far c.in_ok-add_call.ensures.edge,
+    )
 
 pub returns-clause-edges : goal.returns-clause-edges
 returns-clause-edges c =

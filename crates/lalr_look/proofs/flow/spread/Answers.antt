@@ -1,11 +1,7 @@
-use Rattle.std.proofs.Common.{rules, ◌≡◌, ℕ, ◌<◌, ◌≤◌, ◌+◌, ◌*◌, ◌↔◌, ◌⊎◌, inl, inr, length, List, [], ◌∷◌, ◌++◌, arith, refl, sym, ap, ◌∙◌, subst, subst₂, Contains, slice_get, Some, slice_index_or, map, length-append}
+use Rattle.std.proofs.Common.{◌≡◌, ℕ, ◌<◌, ◌+◌, ◌↔◌, length, List, [], ◌∷◌, arith, refl, sym, ap, ◌∙◌, subst, Contains, slice_index_or}
 use Rattle.std.proofs.lemmas.List.Elements.{Contains-append_right}
-use Rattle.std.proofs.lemmas.Option.{slice_get_read}
-use Rattle.ck_base.specs.BitSet.{BitSet, Has}
-use Rattle.lalr_look.specs.Flow.{Edge, Flows, set_at, Sent}
 use Rattle.lalr_look.specs.Rows.{rows_of}
 use Rattle.lalr_look.proofs.Flowing.{Turning, all_wait, popped, row_done, sent, flowed, row_is, counted, one_more, same_sizes, low_node, edge_at}
-use Rattle.lalr_look.proofs.Holes.{holes}
 use Rattle.lalr_look.proofs.flow.spread.Goals as goal
 
 pub loop-n-preserved : goal.loop-n-preserved
@@ -19,23 +15,24 @@ loop-n-2-init c =
     let past = c.loop-n-test.false in
     let auto = c.loop-n.auto in
     all_wait (rows_of c.args.edges.now.items) c.args.sets.now c.loop-n.work.items long c.requires.sizes
-        (λ k. (λ h. (let low = (c.loop-n.invariant k).0 h in let top = auto.n-end in omega (arith, low, top)), λ low. (c.loop-n.invariant k).1 (omega (arith, low, past))))
+    (λ k. (λ h. (let low = (c.loop-n.invariant k).0 h in let top = auto.n-end in omega (arith, low, top)), λ low. (c.loop-n.invariant k).1 (omega (arith, low, past))))
 
 pub index-next-requires : goal.index-next-requires
 index-next-requires c =
     let items = (c.in-Some.ensures).items in
     let low = c.loop-n-2.invariant.nodes c.in-Some.n
-        (subst (λ l. Contains l c.in-Some.n) (sym items) (Contains-append_right c.pop.new.self.items (c.in-Some.n ∷ []) c.in-Some.n (0, omega arith, refl))) in
+    (subst (λ l. Contains l c.in-Some.n) (sym items) (Contains-append_right c.pop.new.self.items (c.in-Some.n ∷ []) c.in-Some.n (0, omega arith, refl))) in
     let nodes = c.requires.nodes in
     let ok = c.args.edges.now.ok in
     omega (arith, low, nodes, ok)
 
 pub loop-i-init : goal.loop-i-init
 loop-i-init c =
-    let items = (c.in-Some.ensures).items in
-    (popped (rows_of c.args.edges.now.items) c.args.sets.now c.loop-n-2.sets c.pop.new.self.items c.in-Some.n
-        (subst (λ l. Turning (rows_of c.args.edges.now.items) c.args.sets.now c.loop-n-2.sets l (length (rows_of c.args.edges.now.items)) 0) items c.loop-n-2.invariant),
-     omega arith)
+    let items = (c.in-Some.ensures).items in (
+      popped (rows_of c.args.edges.now.items) c.args.sets.now c.loop-n-2.sets c.pop.new.self.items c.in-Some.n
+          (subst (λ l. Turning (rows_of c.args.edges.now.items) c.args.sets.now c.loop-n-2.sets l (length (rows_of c.args.edges.now.items)) 0) items c.loop-n-2.invariant),
+      omega arith,
+    )
 
 pub loop-n-2-preserved : goal.loop-n-2-preserved
 loop-n-2-preserved c =
@@ -49,7 +46,7 @@ loop-n-2-preserved c =
     let ok = c.index-next.result.now.ok in
     let end : c.loop-i.i ≡ length (slice_index_or (rows_of c.args.edges.now.items) c.in-Some.n []) = omega (arith, size, past, top, len, ok) in
     row_done (rows_of c.args.edges.now.items) c.args.sets.now c.loop-i.sets c.loop-i.work.items c.in-Some.n
-        (subst (λ k. Turning (rows_of c.args.edges.now.items) c.args.sets.now c.loop-i.sets c.loop-i.work.items c.in-Some.n k) end (c.loop-i.invariant).0)
+    (subst (λ k. Turning (rows_of c.args.edges.now.items) c.args.sets.now c.loop-i.sets c.loop-i.work.items c.in-Some.n k) end (c.loop-i.invariant).0)
 
 pub send-requires-clause-inside : goal.send-requires-clause-inside
 send-requires-clause-inside c =
@@ -59,7 +56,7 @@ send-requires-clause-inside c =
     let len = c.len-i-end.ensures in
     let ok = c.index-next.result.now.ok in
     let (at, edge) = edge_at c.args.edges.now.items c.in-Some.n c.loop-i.i c.index.result.now c.index-next.result.now
-        (omega (arith, low, nodes)) c.index-next.ensures (omega (arith, test, len, ok)) c.index.ensures in
+    (omega (arith, low, nodes)) c.index-next.ensures (omega (arith, test, len, ok)) c.index.ensures in
     let inside = c.requires.ends c.in-Some.n c.index.result.now edge in
     let long = (c.loop-i.invariant).0.long in
     (omega (arith, low, long), omega (arith, inside, long))
@@ -75,10 +72,10 @@ loop-i-preserved c =
     let len = c.len-i-end.ensures in
     let ok = c.index-next.result.now.ok in
     let (at, edge) = edge_at c.args.edges.now.items c.in-Some.n c.loop-i.i c.index.result.now c.index-next.result.now
-        (omega (arith, low, nodes)) c.index-next.ensures (omega (arith, test, len, ok)) c.index.ensures in
+    (omega (arith, low, nodes)) c.index-next.ensures (omega (arith, test, len, ok)) c.index.ensures in
     let inside = c.requires.ends c.in-Some.n c.index.result.now edge in
     let (turn, less) = sent (rows_of c.args.edges.now.items) c.args.sets.now c.loop-i.sets c.send.new.sets c.loop-i.work.items c.send.new.work.items
-        c.in-Some.n c.loop-i.i c.index.result.now (c.loop-i.invariant).0 c.in_ok-send.ensures edge inside at in
+    c.in-Some.n c.loop-i.i c.index.result.now (c.loop-i.invariant).0 c.in_ok-send.ensures edge inside at in
     let so_far = (c.loop-i.invariant).1 in
     (turn, omega (arith, less, so_far))
 
@@ -98,4 +95,4 @@ returns-clause-flows c =
     let ok = c.loop-n-2.work.ok in
     let none = no_items c.loop-n-2.work.items (omega (arith, empty, ok)) in
     flowed (rows_of c.args.edges.now.items) c.args.sets.now c.loop-n-2.sets
-        (subst (λ l. Turning (rows_of c.args.edges.now.items) c.args.sets.now c.loop-n-2.sets l (length (rows_of c.args.edges.now.items)) 0) none c.loop-n-2.invariant)
+    (subst (λ l. Turning (rows_of c.args.edges.now.items) c.args.sets.now c.loop-n-2.sets l (length (rows_of c.args.edges.now.items)) 0) none c.loop-n-2.invariant)

@@ -1,13 +1,16 @@
-use Rattle.std.proofs.Common.{◌≡◌, ℕ, sym, ap, ◌∙◌, subst, refl, arith, length, map}
+use Rattle.std.proofs.Common.{sym, ap, arith, length, map}
 use Rattle.lalr_look.proofs.Grown.{start_kernels, going_first, too_many, are_cores, no_more}
 use Rattle.lalr_look.proofs.making.cores.Goals as goal
 
 pub loop-n-init : goal.loop-n-init
 loop-n-init c =
     let one = start_kernels c.new-kernels.result c.number_of.new.self _ _ c.new-kernels.ensures c.new.ensures.items c.in_ok-number_of.ensures.number in
-    let long = ap length one in
-    (going_first c.args.g.now c.number_of.new.self _ one (ap (λ l. map (λ row. row.items) l) c.new-2.ensures.items) (ap (λ l. map (λ row. row.items) l) c.new-3.ensures.items),
-     sym (ap (λ l. length (map (λ row. row.items) l)) c.new-2.ensures.items), omega (arith, long), omega arith)
+    let long = ap length one in (
+      going_first c.args.g.now c.number_of.new.self _ one (ap (λ l. map (λ row. row.items) l) c.new-2.ensures.items) (ap (λ l. map (λ row. row.items) l) c.new-3.ensures.items),
+      sym (ap (λ l. length (map (λ row. row.items) l)) c.new-2.ensures.items),
+      omega (arith, long),
+      omega arith,
+    )
 
 pub returns-then-len-gt4096-clause-fault : goal.returns-then-len-gt4096-clause-fault
 returns-then-len-gt4096-clause-fault c =
@@ -28,5 +31,5 @@ returns-clause-no_more c =
     let past = c.loop-n-test.false in
     let len = c.len.ensures in
     no_more c.args.g.now c.loop-n.made 4096
-        (are_cores c.args.g.now c.requires.grammar c.requires.productive c.loop-n.kernels c.loop-n.made going (omega (arith, made, low, past, len)))
-        (omega (arith, made, low, few))
+    (are_cores c.args.g.now c.requires.grammar c.requires.productive c.loop-n.kernels c.loop-n.made going (omega (arith, made, low, past, len)))
+    (omega (arith, made, low, few))

@@ -8,6 +8,6 @@ pub returns : goal.returns
 returns c =
     let row = c.index_mut-row.result.now in
     subst (λ r. Takes (rows_of c.args.rows.now.items) (rows_of (slice_set c.args.rows.now.items c.args.place c.replace.new.dest)) c.args.place r)
-        (ap (λ v. v.items) (sym c.replace.ensures.value))
-        (taken c.args.rows.now.items c.args.place row c.replace.new.dest
-            (row_is c.args.rows.now.items c.args.place row c.requires c.index_mut-row.ensures.value))
+    (ap (λ v. v.items) (sym c.replace.ensures.value))
+    (taken c.args.rows.now.items c.args.place row c.replace.new.dest
+    (row_is c.args.rows.now.items c.args.place row c.requires c.index_mut-row.ensures.value))

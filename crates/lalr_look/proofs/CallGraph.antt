@@ -1,16 +1,15 @@
 -- Edges and sets of a graph, and the graph of calls.
-use Rattle.std.proofs.Common.{◌≡◌, ◌≢◌, ℕ, zero, suc, ◌+◌, ◌<◌, ◌≤◌, ◌↔◌, ◌⊎◌, inl, inr, List, [], ◌∷◌, ◌++◌, length, refl, sym, ap, ap₂, subst, subst₂, ◌∙◌, arith, slice_get, slice_set, Option, Some, None, Contains, get_or, All, map, length-append, slice_index_or, Vec, Global, take}
+use Rattle.std.proofs.Common.{◌≡◌, ◌≢◌, ℕ, zero, suc, ◌+◌, ◌<◌, ◌↔◌, ◌⊎◌, inl, inr, List, [], ◌∷◌, ◌++◌, length, refl, sym, ap, ap₂, subst, subst₂, ◌∙◌, arith, slice_get, Some, Contains, get_or, All, length-append, slice_index_or, take}
 use Rattle.std.proofs.lemmas.List.Elements.{Contains-append_left, Contains-append_right, Contains-append_cases}
-use Rattle.std.proofs.lemmas.Option.{slice_get-get_or, slice_get_within, get_or_from_slice_get}
+use Rattle.std.proofs.lemmas.Option.{slice_get_within, get_or_from_slice_get}
 use Rattle.ck_base.specs.BitSet.{BitSet, Has, Adds, IsEmpty}
 use Rattle.cfg_model.specs.declared.symbol.Sym.{Sym}
-use Rattle.cfg_model.specs.declared.symbol.Sym.TheVariants.{T, N}
+use Rattle.cfg_model.specs.declared.symbol.Sym.TheVariants.{N}
 use Rattle.cfg_model.specs.Cfg.{Cfg, Rule, IsRule, IsSymbol, IsGrammar}
 use Rattle.cfg_model.proofs.InGrammar.{right_in}
 use Rattle.std.proofs.lemmas.List.Elements.{All-head}
 use Rattle.lalr_look.specs.Flow.{Edge, EdgeAdded, Flows, own, along, set_at, no_set}
 use Rattle.lalr_look.specs.Rows.{row_at, Pushes}
-use Rattle.lalr_look.specs.Rows.{rows_of}
 use Rattle.lalr_look.specs.Kernel.{Calls, self, on, CallsAt, CallsFirst}
 use Rattle.lalr_look.proofs.Turns.{this_or_less}
 use Rattle.lalr_look.proofs.Grown.{at_end}
@@ -19,8 +18,12 @@ use Rattle.lalr_look.proofs.RowsChanged.{same_or_other}
 -- a number at the end of a row is an edge more
 pub edge_pushed : (old new : List (List ℕ)) (from to : ℕ) → Pushes old new from to → EdgeAdded old new from to
 edge_pushed old new from to t =
-    record { size = t.size; only = λ k n e. only k n e (same_or_other k from); kept = λ k n e. kept k n e (same_or_other k from);
-             more = subst (λ l. Contains l to) (sym t.here) (Contains-append_right (row_at old from) (to ∷ []) to (0, omega arith, refl)) }
+    record {
+      size = t.size;
+      only = λ k n e. only k n e (same_or_other k from);
+      kept = λ k n e. kept k n e (same_or_other k from);
+      more = subst (λ l. Contains l to) (sym t.here) (Contains-append_right (row_at old from) (to ∷ []) to (0, omega arith, refl));
+    }
   where
     only : (k n : ℕ) → Edge new k n → (k ≡ from) ⊎ (k ≢ from) → Edge old k n ⊎ ((k ≡ from) × (n ≡ to))
     only k n e (inr differ) = inl (subst (λ l. Contains l n) (t.elsewhere k differ) e)
@@ -30,11 +33,12 @@ edge_pushed old new from to t =
         go (inl there) = inl (subst (λ i. Edge old i n) (sym same) there)
         go (inr (zero, low, is)) = inr (same, sym is)
         go (inr (suc i, low, is)) = absurd (omega (arith, low))
+
     kept : (k n : ℕ) → Edge old k n → (k ≡ from) ⊎ (k ≢ from) → Edge new k n
     kept k n e (inr differ) = subst (λ l. Contains l n) (sym (t.elsewhere k differ)) e
     kept k n e (inl same) =
         subst (λ i. Edge new i n) (sym same) (subst (λ l. Contains l n) (sym t.here)
-            (Contains-append_left (row_at old from) (to ∷ []) n (subst (λ i. Edge old i n) same e)))
+        (Contains-append_left (row_at old from) (to ∷ []) n (subst (λ i. Edge old i n) same e)))
 
 -- empty rows are no edges
 pub no_edge : (rows : List (List ℕ)) → ((k : ℕ) → row_at rows k ≡ []) → (k m : ℕ) → Edge rows k m → ⊥
@@ -58,6 +62,7 @@ own_set sets after empty set n m long sizes so_far size none adds e =
           where
             less : (k l : ℕ) → k < l + 1 → k ≢ l → k < l
             less k l low differ = grind arith
+
     has : (k a : ℕ) → Has (set_at after k) a ↔ ((k < m + 1) × (a ≡ k))
     has k a = subst (λ l. Has (set_at l k) a ↔ ((k < m + 1) × (a ≡ k))) (sym e) (go (at_end sets set no_set k))
       where
@@ -105,7 +110,7 @@ calls_flow g ok edges sets t m a low (on n s k y calls is) =
     let inside = All-head (IsSymbol g) (N a) y right in
     let one : Rule = record { left = n; right = N a ∷ y } in
     flow_on g edges sets t m n a inside ((t.edge a n).1 (is.place, slice_get_within g.rules is.place one is.read, (y, is.read)))
-        (calls_flow g ok edges sets t m n low calls)
+    (calls_flow g ok edges sets t m n low calls)
 
 pub flows_are_calls : (g : Cfg) → IsGrammar g → (edges : List (List ℕ)) (sets : List BitSet) → CallGraph g edges sets → (m a : ℕ) → m < g.nonterminals
     → Flows edges sets m a ↔ Calls g m a
@@ -129,11 +134,13 @@ one_call g i k one old new at first added j n = (λ e. go (added.only j n e), ba
     rest : (l : List Sym) → slice_get l 0 ≡ Some (N k) → (y : List Sym) × (l ≡ N k ∷ y)
     rest [] e = cc
     rest (x ∷ l) e = (let f : x ≡ N k = cc in (l, ap (λ z. z ∷ l) f))
+
     go : Edge old j n ⊎ ((j ≡ k) × (n ≡ one.left)) → Edge old j n ⊎ CallsAt g i j n
     go (inl e) = inl e
     go (inr (a, b)) =
         let (y, is) = rest one.right first in
         inr (y, at ∙ ap₂ (λ l r. Some (record { left = l; right = r })) (sym b) (is ∙ ap (λ z. N z ∷ y) (sym a)))
+
     back : Edge old j n ⊎ CallsAt g i j n → Edge new j n
     back (inl e) = added.kept j n e
     back (inr (y, is)) =
@@ -153,6 +160,7 @@ call_next g i old new so_far one k n = (λ e. go ((one k n).0 e), λ c. (one k n
     go : Edge old k n ⊎ CallsAt g i k n → CallsFirst g (i + 1) k n
     go (inl e) = let (j, low, is) = (so_far k n).0 e in (j, omega (arith, low), is)
     go (inr is) = (i, omega arith, is)
+
     back : CallsFirst g (i + 1) k n → Edge old k n ⊎ CallsAt g i k n
     back (j, low, is) = which (this_or_less j i low)
       where
