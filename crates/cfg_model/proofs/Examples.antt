@@ -12,7 +12,7 @@ use Rattle.cfg_model.specs.Derivation.{Forest, empty, leaf, node, yield, shift, 
 use Rattle.cfg_model.proofs.Makers.{both_empty}
 
 -- L = X M, M = X M, M =
-abbrev rights : Cfg
+abbrev pub rights : Cfg
 rights = record {
   terminals = 1;
   nonterminals = 2;
@@ -30,10 +30,10 @@ rule_c : IsRule rights 3 1 []
 rule_c = record { place = 2; from_one = refl; read = refl }
 
 -- the derivation of xx, and its steps: rule 3 is done before rule 2, and rule 1 last
-abbrev of_xx : Forest ℕ
+abbrev pub of_xx : Forest ℕ
 of_xx = node 1 (leaf 0 (node 2 (leaf 0 (node 3 empty empty)) empty)) empty
 
-xx_is : Derivation (λ t. t) rights (0 ∷ 0 ∷ []) of_xx
+pub xx_is : Derivation (λ t. t) rights (0 ∷ 0 ∷ []) of_xx
 xx_is = record {
   from_start = rule 1 0 _ [] _ empty rule_a
       (token 0 0 _ _ refl (rule 2 1 _ [] _ empty rule_b (token 0 0 _ _ refl (rule 3 1 _ [] empty empty rule_c nothing nothing)) nothing)) nothing;
@@ -99,7 +99,7 @@ rule_of_l (suc (suc zero)) w read =
     absurd (let e : 1 ≡ 0 = ap (λ (r : Rule). r.left) same in omega arith)
 rule_of_l (suc (suc (suc place))) w read = absurd (let lt = slice_get_within {A = Rule} [] place _ read in omega arith)
 
-none_viable : IsViable rights []
+pub none_viable : IsViable rights []
 none_viable = (0 ∷ 0 ∷ [], (of_xx, xx_is))
 
 begins_with_x : (u w : List Sym) (f : Forest ℕ) → u ≡ T 0 ∷ w → Derive (λ t. t) rights u f → yield f ≡ [] → ⊥
@@ -107,7 +107,7 @@ begins_with_x _ w _ same nothing none_is = cc
 begins_with_x _ w _ same (token t k u f is d) none_is = cc
 begins_with_x _ w _ same (rule r n v u children f is c d) none_is = cc
 
-none_no_sentence : IsSentence rights [] → ⊥
+pub none_no_sentence : IsSentence rights [] → ⊥
 none_no_sentence (f, d) = by_rule (N 0 ∷ []) f refl d.from_start (sym d.yields)
   where
     by_rule : (u : List Sym) (f : Forest ℕ) → u ≡ N 0 ∷ [] → Derive (λ t. t) rights u f → yield f ≡ [] → ⊥

@@ -27,7 +27,7 @@ x_is_parsed = record {
   forest = node 1 (leaf (x_at 0 1) (node 3 empty empty)) empty;
   derivation = record {
     from_start = rule 1 0 _ [] _ empty (record { place = 0; from_one = refl; read = refl })
-      (token 0 (x_at 0 1) _ _ refl (rule 3 1 [] [] empty empty (record { place = 2; from_one = refl; read = refl }) nothing nothing)) nothing;
+        (token 0 (x_at 0 1) _ _ refl (rule 3 1 [] [] empty empty (record { place = 2; from_one = refl; read = refl }) nothing nothing)) nothing;
     yields = refl;
   };
   in_postorder = refl;

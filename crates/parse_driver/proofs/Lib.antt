@@ -8,3 +8,4 @@ pub mod Turned
 pub mod Tops
 pub mod Parsing
 pub mod OneDerivation
+pub mod OneForest

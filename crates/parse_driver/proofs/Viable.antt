@@ -21,7 +21,7 @@ use Rattle.parse_driver.proofs.Stack.{gather, nothing_left}
 use Rattle.parse_driver.specs.within.LlStack.{steps_of, Completes, all_done, finds, ends, symbols, read_as, State, NoneAhead}
 
 -- a token of the terminal
-abbrev token_for : ℕ → TokenRef
+abbrev pub token_for : ℕ → TokenRef
 token_for t = record { terminal = t; from = 0; to = 0 }
 
 tokens_for : (v : List ℕ) → terminals_of (map token_for v) ≡ v

@@ -6,9 +6,12 @@ ghost use Rattle.parse_driver.specs.declared.tokens.TokenRef.{TokenRef};
 
 use cfg_model::Grammar;
 
-/// Law: an accepted grammar gives a sentence one derivation.
+/// Law: a grammar that has an LL(1) table gives a sentence one derivation, as a list of terminals and as one
+/// of tokens.
 pub fn at_most_one_derivation(g: &Grammar)
     requires { IsLl g.now }
-    ensures { (tokens : List TokenRef) (f h : Forest TokenRef) →
+    ensures terminals { (sentence : List ℕ) (f h : Forest ℕ) →
+        Derivation (λ t. t) g.now sentence f → Derivation (λ t. t) g.now sentence h → f ≡ h }
+    ensures tokens { (tokens : List TokenRef) (f h : Forest TokenRef) →
         Derivation terminal_of g.now tokens f → Derivation terminal_of g.now tokens h → f ≡ h }
 {}
