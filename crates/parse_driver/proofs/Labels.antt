@@ -34,13 +34,13 @@ plain empty = empty
 plain (leaf k f) = leaf k.terminal (plain f)
 plain (node r children f) = node r (plain children) (plain f)
 
-plain_yield : (f : Forest TokenRef) → yield (plain f) ≡ terminals_of (yield f)
+pub plain_yield : (f : Forest TokenRef) → yield (plain f) ≡ terminals_of (yield f)
 plain_yield empty = refl
 plain_yield (leaf k f) = ap (λ l. k.terminal ∷ l) (plain_yield f)
 plain_yield (node r children f) = rw (plain_yield children, plain_yield f) (sym (terminals_beside (yield children) (yield f)))
 
 module _ (g : Cfg) where
-  plain_derives : (u : List Sym) (f : Forest TokenRef) → Derive terminal_of g u f → Derive (λ t. t) g u (plain f)
+  pub plain_derives : (u : List Sym) (f : Forest TokenRef) → Derive terminal_of g u f → Derive (λ t. t) g u (plain f)
   plain_derives _ _ nothing = nothing
   plain_derives _ _ (token t k u f is d) = token t k.terminal u (plain f) is (plain_derives u f d)
   plain_derives _ _ (rule r n w u children f is c d) = rule r n w u (plain children) (plain f) is (plain_derives w children c) (plain_derives u f d)

@@ -1,2 +1,3 @@
 -- Words that only the contracts and proofs within this crate cite.
 pub mod LlStack
+pub mod LrStack
