@@ -94,7 +94,7 @@ pub group_atom : (depth : ℕ) (tokens inner end rest : List Lexeme) (w : Writte
     → Fixed (sign (codes ")")) end rest → Reading (AtomIn (suc depth)) Anything tokens (group w) rest
 group_atom depth tokens inner end rest w at reading close =
     let whole = behind (Inner depth) Anything (sign (codes "(")) tokens inner rest w at
-        (before (RegexIn depth) EndsRegex Anything (sign (codes ")")) closes inner end rest w reading close) in
+    (before (RegexIn depth) EndsRegex Anything (sign (codes ")")) closes inner end rest w reading close) in
     record {
       is = by_second tokens rest (group w) (record { v = w; is = whole.is; said = refl });
       only = λ m after follows is. by whole m after is;

@@ -26,3 +26,4 @@ pub mod Frame
 pub mod Numbers
 pub mod Parting
 mod Examples
+pub mod KindOrder

@@ -20,7 +20,7 @@ atom-returns-in_default-2-clause-reading t c =
 pub atom-returns-in_default-after_sign-2-clause-reading : goal.atom-returns-in_default-after_sign-2-clause-reading
 atom-returns-in_default-after_sign-2-clause-reading t c =
     rw (some_depth _ c.if-depth-eq0.false) (no_close _ _ (rw c.in_default.is at c.in_ok-body.ensures.reading) _ _ _ c.in-Some-after_sign.ensures
-        (rw c.in-Some-2.is at c.in_ok-read.ensures.reading) c.in_default-after_sign-2.ensures)
+    (rw c.in-Some-2.is at c.in_ok-read.ensures.reading) c.in_default-after_sign-2.ensures)
 
 pub atom-returns-clause-reading : goal.atom-returns-clause-reading
 atom-returns-clause-reading t c =
@@ -84,6 +84,8 @@ regex-loop-behind-preserved t c =
     let fits = rw c.in-Some-2.is at c.in_ok-next.ensures.fits in
     let before = c.loop-behind.invariant.2 in
     let less = shorter _ _ _ c.in-Some-after_sign.ensures in
-    let most = c.max-deepest.ensures in
-    (rows_more _ _ _ _ _ _ _ _ _ _ c.loop-behind.invariant.0 c.in-Some-after_sign.ensures (rw c.in-Some-2.is at c.in_ok-next.ensures.reading) c.in_ok-push-2.ensures.items _ most, search rules,
-        omega (arith, fits.1, before, less))
+    let most = c.max-deepest.ensures in (
+      rows_more _ _ _ _ _ _ _ _ _ _ c.loop-behind.invariant.0 c.in-Some-after_sign.ensures (rw c.in-Some-2.is at c.in_ok-next.ensures.reading) c.in_ok-push-2.ensures.items _ most,
+      search rules,
+      omega (arith, fits.1, before, less),
+    )

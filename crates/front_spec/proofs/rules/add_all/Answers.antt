@@ -7,6 +7,7 @@ use Rattle.front_spec.proofs.rules.add_all.Goals as goal
 
 pub loop-name-preserved : goal.loop-name-preserved
 loop-name-preserved c = (
-    one_name_more _ _ _ _ (map bytes_of c.args.names.now) c.loop-name.name-index _ c.loop-name.invariant.0 c.add_one.ensures
-        (map_get bytes_of c.args.names.now c.loop-name.name-index _ (get_at c.args.names.now c.loop-name.name-index _ c.loop-name-test.true)),
-    c.add_one.ensures.size ∙ c.loop-name.invariant.1)
+  one_name_more _ _ _ _ (map bytes_of c.args.names.now) c.loop-name.name-index _ c.loop-name.invariant.0 c.add_one.ensures
+      (map_get bytes_of c.args.names.now c.loop-name.name-index _ (get_at c.args.names.now c.loop-name.name-index _ c.loop-name-test.true)),
+  c.add_one.ensures.size ∙ c.loop-name.invariant.1,
+)
