@@ -1,10 +1,9 @@
 -- A line is at most one rule.
-use Rattle.std.proofs.Common.{◌≡◌, ℕ, List, [], ◌∷◌, refl, sym, ap, ◌∙◌, Option, Some, None, codes, arith}
-use Rattle.rex_model.specs.Language.{Re}
+use Rattle.std.proofs.Common.{◌≡◌, ℕ, List, ◌∷◌, refl, sym, ap, ◌∙◌, codes, arith}
 use Rattle.spec_text.specs.Lexemes.{Lexeme, word, sign}
 use Rattle.front_spec.specs.Regexes.{IsRegex, EndsRegex, meaning_of}
 use Rattle.front_spec.specs.RexShapes.{States, Body, Context, NoSlashEnds, Go, Produces, Skips, with_token, without_token, Action, RuleShape}
-use Rattle.spec_text.specs.Parts.{Part, Name, Opt, ListOf, Behind, Before, Then, Or, first as by_first, second as by_second, Seen, Follow, Anything, Nothing, NotFirst}
+use Rattle.spec_text.specs.Parts.{Part, Name, Opt, ListOf, Before, Then, Or, first as by_first, second as by_second, Seen, Follow, Anything, Nothing, NotFirst}
 use Rattle.spec_text.proofs.Readings.{comma}
 use Rattle.spec_text.proofs.One.{One, one_name, one_opt, one_behind, one_before, one_list, one_then}
 use Rattle.front_spec.proofs.OneRegex.{one_regex}

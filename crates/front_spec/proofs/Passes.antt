@@ -2,9 +2,8 @@
 use Rattle.std.proofs.Common.{◌≡◌, ℕ, zero, suc, ◌+◌, ◌<◌, ◌≤◌, ◌⊎◌, inl, inr, ◌↔◌, IsTrue, Bool, true, false, List, [], ◌∷◌, ◌++◌, length, take, map, get_or, min, refl, sym, ap, ◌∙◌, Option, Some, None, Contains, codes, arith, rules, length-append}
 use Rattle.std.specs.List.{slice_get}
 use Rattle.std.proofs.lemmas.List.{append-nil, length-map}
-use Rattle.ck_base.specs.declared.fault.Kind.{Kind}
 use Rattle.ck_base.specs.declared.fault.Kind.TheVariants.{Limit, Twice, Unknown, Typing}
-use Rattle.ck_base.specs.Numbered.{number_of, met}
+use Rattle.ck_base.specs.Numbered.{met}
 use Rattle.ck_base.proofs.NamesMet.{met_new, none_where_absent}
 use Rattle.spec_text.specs.Declares.{Declared, HasAt, DeclareAll, HasFault, judged, Grow}
 use Rattle.spec_text.specs.FirstFault.{Least, FirstFault, of_kind, Accepts}

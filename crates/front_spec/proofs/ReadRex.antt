@@ -1,7 +1,6 @@
 -- What the whole section gives: its rules in their ranges, or its first fault.
-use Rattle.std.proofs.Common.{◌≡◌, ℕ, zero, suc, ◌+◌, ◌^◌, ◌<◌, ◌≤◌, List, [], ◌∷◌, length, take, map, refl, sym, ap, ◌∙◌, Option, Some, None, arith, ◌⊎◌, inl, inr, true}
+use Rattle.std.proofs.Common.{◌≡◌, ℕ, zero, suc, ◌+◌, ◌<◌, ◌≤◌, List, [], ◌∷◌, length, take, map, refl, ap, ◌∙◌, Option, Some, None, arith, ◌⊎◌, inl, inr, true}
 use Rattle.std.specs.List.{slice_get}
-use Rattle.ck_base.specs.declared.fault.Kind.{Kind}
 use Rattle.ck_base.specs.declared.fault.Kind.TheVariants.{Limit}
 use Rattle.ck_base.specs.declared.fault.SpecFault.{SpecFault}
 use Rattle.ck_base.specs.declared.fault.SpecFault.TheVariants.{Bad, NoMemory}
@@ -12,7 +11,7 @@ use Rattle.rex_model.specs.Positions.{position_count}
 use Rattle.rex_model.specs.Rules.{Rule, Rules, trailing}
 use Rattle.rex_model.specs.Sets.{marked_rules}
 use Rattle.std.proofs.lemmas.List.{length-map}
-use Rattle.spec_text.specs.Declares.{Declared, DeclareAll, Grow, HasAt, HasFault, IsFirstFault, judged}
+use Rattle.spec_text.specs.Declares.{Declared, DeclareAll, Grow, IsFirstFault, judged}
 use Rattle.spec_text.specs.Lines.{Line}
 use Rattle.spec_text.specs.Spans.{AreLinesOf}
 use Rattle.spec_text.specs.declared.section.SectionText.{SectionText}
@@ -27,7 +26,7 @@ use Rattle.spec_text.specs.Sections.{SectionLines}
 use Rattle.spec_text.specs.declared.section.Section.TheVariants.{Rex}
 use Rattle.spec_text.proofs.Lists.{take_all, get_fits}
 use Rattle.front_spec.specs.RexShapes.{SaidRule, Saying, state, rule}
-use Rattle.front_spec.specs.RexFaults.{all_states, context_positions, positions_of, all_positions, RexFault, too_many_states, too_many_positions, rex}
+use Rattle.front_spec.specs.RexFaults.{all_states, context_positions, positions_of, all_positions, too_many_states, too_many_positions, rex}
 use Rattle.front_spec.specs.RexRules.{add_rule, rules_in, tokens_in, number_in, rule_by, rules_by, is_number, active_in}
 use Rattle.front_spec.proofs.MadeRules.{is_same, either}
 use Rattle.front_spec.specs.Promise.{IsRexFault}

@@ -1,5 +1,5 @@
 -- Each turn looks at one line.
-use Rattle.std.proofs.Common.{refl, ap, map, ◌∙◌, length, ◌∷◌, [], rules, arith}
+use Rattle.std.proofs.Common.{refl, ap, map, ◌∙◌, ◌∷◌, [], rules, arith}
 use Rattle.std.proofs.lemmas.List.{map-append}
 use Rattle.spec_text.specs.Declares.{no_lines}
 use Rattle.spec_text.proofs.Frame.{declare_more, first_shapeless}

@@ -1,5 +1,4 @@
 -- Each turn counts one line.
-use Rattle.std.proofs.Common.{refl}
 use Rattle.spec_text.proofs.Frame.{none_in_all}
 use Rattle.front_spec.specs.Seen.{declared_by}
 use Rattle.front_spec.proofs.Passes.{declared_at, at_end, step_limit, found_limit}

@@ -1,8 +1,7 @@
 -- Each turn looks at one name.
-use Rattle.std.proofs.Common.{map, refl}
+use Rattle.std.proofs.Common.{refl}
 use Rattle.spec_text.specs.Seen.{bytes_of}
 use Rattle.spec_text.proofs.Lists.{map_get, get_at}
-use Rattle.spec_text.proofs.Parting.{contains_at}
 use Rattle.front_spec.proofs.Passes.{names_at_end, one_known, missing_here, none_missing}
 use Rattle.front_spec.proofs.fault.is_any_missing.Goals as goal
 

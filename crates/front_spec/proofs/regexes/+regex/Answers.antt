@@ -1,6 +1,6 @@
 -- The parts of an expression.
-use Rattle.std.proofs.Common.{refl, arith, [], rules}
-use Rattle.front_spec.proofs.RegexParts.{leaf_atom, no_atom_zero, no_open, no_inner, no_close, group_atom, some_depth, no_piece, piece_first, piece_more, piece_end, piece_deep, piece_deeper, no_row, row_first, row_more, row_end, no_rows, rows_first, rows_more, rows_none, rows_end, rows_deep, shorter}
+use Rattle.std.proofs.Common.{arith, [], rules}
+use Rattle.front_spec.proofs.RegexParts.{leaf_atom, no_atom_zero, no_open, no_inner, no_close, group_atom, some_depth, no_piece, piece_first, piece_more, piece_end, piece_deep, piece_deeper, no_row, row_first, row_more, row_end, no_rows, rows_first, rows_more, rows_none, shorter}
 use Rattle.front_spec.proofs.regexes.+regex.Goals as goal
 
 pub atom-returns-in-Some-clause-reading : goal.atom-returns-in-Some-clause-reading

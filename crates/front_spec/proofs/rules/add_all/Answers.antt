@@ -1,7 +1,7 @@
 -- Each turn takes one name.
 use Rattle.std.proofs.Common.{map, ◌∙◌}
 use Rattle.spec_text.specs.Seen.{bytes_of}
-use Rattle.spec_text.proofs.Lists.{take_step, map_get, get_at}
+use Rattle.spec_text.proofs.Lists.{map_get, get_at}
 use Rattle.front_spec.proofs.MadeRules.{one_name_more}
 use Rattle.front_spec.proofs.rules.add_all.Goals as goal
 

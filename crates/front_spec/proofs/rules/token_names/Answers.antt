@@ -1,7 +1,7 @@
 -- Each turn takes the token of one line.
 use Rattle.front_spec.specs.Seen.{declared_by}
 use Rattle.front_spec.proofs.Passes.{declared_at, at_end}
-use Rattle.front_spec.proofs.MadeRules.{no_tokens_yet, one_token, all_tokens}
+use Rattle.front_spec.proofs.MadeRules.{one_token, all_tokens}
 use Rattle.front_spec.proofs.rules.token_names.Goals as goal
 
 pub loop-item-preserved : goal.loop-item-preserved
