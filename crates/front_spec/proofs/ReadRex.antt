@@ -91,7 +91,7 @@ within (d ∷ ds) none = (at_most (all_positions (d ∷ ds)) 4096 positions, at_
       fault = too_many_states (length ds) last.0.said (rw all more);
     })
 
--- the next state is one of the start states
+-- a number is one of the names, as the next state of the start states
 next_of : (states : List (List ℕ)) (name : Option (List ℕ)) (n : ℕ) → number_in states name ≡ Some n → n < length states
 next_of states None n is = cc
 next_of states (Some name) n is = get_fits states n name (name_at_number states name n is)
@@ -102,6 +102,14 @@ next_in states tokens [] i n made at is = cc
 next_in states tokens (said ∷ rules) zero n made at is =
     let same : rule_by states tokens said ≡ made = cc in next_of states said.next n (ap (λ r. r.next) same ∙ is)
 next_in states tokens (said ∷ rules) (suc i) n made at is = next_in states tokens rules i n made at is
+
+-- and a token is one of the names of tokens
+token_in : (states tokens : List (List ℕ)) (rules : List SaidRule) (i n : ℕ) (made : Rule) → slice_get (map (rule_by states tokens) rules) i ≡ Some made
+    → made.token ≡ Some n → n < length tokens
+token_in states tokens [] i n made at is = cc
+token_in states tokens (said ∷ rules) zero n made at is =
+    let same : rule_by states tokens said ≡ made = cc in next_of tokens said.token n (ap (λ r. r.token) same ∙ is)
+token_in states tokens (said ∷ rules) (suc i) n made at is = token_in states tokens rules i n made at is
 
 -- so are the states where a rule is active
 numbered : (states : List (List ℕ)) (name : List ℕ) (k : ℕ) → is_number (number_of states name) k ≡ true → k < length states
@@ -154,6 +162,9 @@ module _ (rules : Rules) (ds : List (Declared Saying)) (are : rules ≡ rules_by
   pub next_fits : (i n : ℕ) (made : Rule) → slice_get rules.list i ≡ Some made → made.next ≡ Some n → n < length rules.states
   next_fits i n made at is = rw are (next_in (all_states ds) (met [] (tokens_in (rules_in ds))) (rules_in ds) i n made (rw are at at) is)
 
+  pub tokens_fit : (i n : ℕ) (made : Rule) → slice_get rules.list i ≡ Some made → made.token ≡ Some n → n < length rules.tokens
+  tokens_fit i n made at is = rw are (token_in (all_states ds) (met [] (tokens_in (rules_in ds))) (rules_in ds) i n made (rw are at at) is)
+
   pub active_fits : (i k : ℕ) (made : Rule) → slice_get rules.list i ≡ Some made → made.active k ≡ true → k < length rules.states
   active_fits i k made at is =
       rw are (active_among (all_states ds) (met [] (tokens_in (rules_in ds))) (rules_in ds) i k made (omega arith) (rw are at at) is)
@@ -171,6 +182,7 @@ pub record IsMade (file : List ℕ) (rules : Rules) : Type 0 where
   pub are : rules ≡ rules_by declared
   pub positions : position_count (marked_rules rules.list) ≤ 4096
   pub next : (i n : ℕ) (made : Rule) → slice_get rules.list i ≡ Some made → made.next ≡ Some n → n < length rules.states
+  pub tokens : (i n : ℕ) (made : Rule) → slice_get rules.list i ≡ Some made → made.token ≡ Some n → n < length rules.tokens
   pub active : (i k : ℕ) (made : Rule) → slice_get rules.list i ≡ Some made → made.active k ≡ true → k < length rules.states
   pub states : length rules.states ≤ 64
   pub few : length rules.list < 4294967296
@@ -212,6 +224,7 @@ module _ (file : List ℕ) (text : SectionText) (section : IsSectionOf file Rex 
         are = are;
         positions = positions_fit _ ds are none;
         next = next_fits _ ds are;
+        tokens = tokens_fit _ ds are;
         active = active_fits _ ds are;
         states = states_fit _ ds are none;
         few = (let less = rules_fit _ ds are 1048576 (let l = list_few in let long = length-map list declared_by in omega (arith, l, long)) in omega (arith, less));

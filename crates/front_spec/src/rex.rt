@@ -32,13 +32,16 @@ pub fn read_rex<'a>(
 ) -> Result<ScanRules<'a>, SpecFault>
     requires size { length spec.now ≤ 1048576 }
     requires read { AreSectionsOf spec.now s.now }
-    ensures rules { IfOk result (DeclaresRules spec.now) }
+    ensures rules { IfOk result (λ rules. DeclaresRules spec.now (rules_of rules)) }
     ensures fault { IfErr result (IsRexFault spec.now) }
     ensures positions { IfOk result (λ rules.
         position_count (marked_rules (rules_of rules).list) ≤ 4096) }
     ensures next { IfOk result (λ rules. (i n : ℕ) (rule : Rule)
         → slice_get (rules_of rules).list i ≡ Some rule → rule.next ≡ Some n
         → n < length (rules_of rules).states) }
+    ensures tokens { IfOk result (λ rules. (i n : ℕ) (rule : Rule)
+        → slice_get (rules_of rules).list i ≡ Some rule → rule.token ≡ Some n
+        → n < length (rules_of rules).tokens) }
     ensures active { IfOk result (λ rules. (i k : ℕ) (rule : Rule)
         → slice_get (rules_of rules).list i ≡ Some rule → rule.active k ≡ true
         → k < length (rules_of rules).states) }

@@ -73,6 +73,13 @@ returns-clause-active c =
     _ _ _ c.as_slice.ensures.value c.as_slice-2.ensures.value c.as_slice-3.ensures.value _ _ _ c.in_ok-states.ensures.states
     c.in_ok-states.ensures.accepted c.in_ok-tokens.ensures c.in_ok-rules.ensures).active
 
+pub returns-clause-tokens : goal.returns-clause-tokens
+returns-clause-tokens c =
+    let section = c.rex_of-section.ensures c.args.spec.now c.requires.read in
+    (made c.args.spec.now _ section c.in_ok-list.list.items c.requires.size c.in_ok-list.ensures.declared c.in_ok-list.ensures.few
+    _ _ _ c.as_slice.ensures.value c.as_slice-2.ensures.value c.as_slice-3.ensures.value _ _ _ c.in_ok-states.ensures.states
+    c.in_ok-states.ensures.accepted c.in_ok-tokens.ensures c.in_ok-rules.ensures).tokens
+
 pub returns-clause-states : goal.returns-clause-states
 returns-clause-states c =
     let section = c.rex_of-section.ensures c.args.spec.now c.requires.read in
