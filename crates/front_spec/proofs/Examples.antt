@@ -5,11 +5,10 @@ use Rattle.spec_text.specs.Declares.{Declared}
 use Rattle.front_spec.specs.RexShapes.{SaidRule, Saying, state, rule}
 use Rattle.front_spec.specs.RexFaults.{all_states, all_positions, NamesState, active, next, RexFault, second_state, no_state}
 use Rattle.front_spec.specs.RexRules.{active_in}
-use Rattle.rex_model.specs.Language.{Re, bytes, star, sequence}
-use Rattle.rex_model.specs.Meaning.{sequence_of}
+use Rattle.rex_model.specs.Language.{bytes, star, sequence}
 use Rattle.spec_text.specs.Lexemes.{Lexeme, text, sign}
-use Rattle.spec_text.specs.Parts.{last_one, one_more, last, Behind, Before, second as by_second, first as by_first}
-use Rattle.front_spec.specs.Regexes.{Written, Leaf, a_string, a_star, plain, signed, with_sign, RegexOver, AtomIn, RegexIn}
+use Rattle.spec_text.specs.Parts.{last_one, one_more, last}
+use Rattle.front_spec.specs.Regexes.{a_string, a_star, plain, signed, RegexOver, AtomIn}
 
 -- "a" "b"* has a nesting of 3
 pub row_of_two : (rest : List Lexeme) → RegexOver (AtomIn 0) (text (codes "a") ∷ text (codes "b") ∷ sign (codes "*") ∷ rest)

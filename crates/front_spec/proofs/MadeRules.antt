@@ -1,14 +1,14 @@
 -- The scan rules that are made are those that the lines declare.
-use Rattle.std.proofs.Common.{◌≡◌, ℕ, zero, suc, ◌+◌, ◌<◌, ◌≤◌, ◌⊎◌, inl, inr, Bool, true, false, ◌||◌, ◌==◌, IsTrue, List, [], ◌∷◌, ◌++◌, length, take, map, refl, sym, ap, ◌∙◌, Option, Some, None, arith, rules}
-use Rattle.std.specs.List.{slice_get, list_any}
+use Rattle.std.proofs.Common.{◌≡◌, ℕ, zero, suc, ◌+◌, ◌≤◌, ◌⊎◌, inl, inr, Bool, true, false, ◌||◌, ◌==◌, List, [], ◌∷◌, ◌++◌, length, take, map, refl, sym, ap, ◌∙◌, Option, Some, None, arith, rules}
+use Rattle.std.specs.List.{slice_get}
 use Rattle.std.proofs.Math.Path.{fun_ext}
-use Rattle.std.proofs.lemmas.List.{append-nil, map-append}
+use Rattle.std.proofs.lemmas.List.{map-append}
 use Rattle.std.proofs.lemmas.List.Folds.{list_any-append}
 use Rattle.ck_base.specs.BitSet.{BitSet, Has, IsEmpty, Adds}
 use Rattle.ck_base.specs.Numbered.{number_of, met}
 use Rattle.ck_base.proofs.NamesMet.{met-append, length-met}
 use Rattle.rex_model.specs.Language.{Re}
-use Rattle.rex_model.specs.Rules.{Rule, Rules}
+use Rattle.rex_model.specs.Rules.{Rule}
 use Rattle.rex_model.specs.RuleMeaning.{contains, rule_of}
 use Rattle.rex_model.specs.declared.rules.ScanRule.{ScanRule}
 use Rattle.rex_model.proofs.MeantRules.{contains_has}
@@ -71,9 +71,9 @@ pub one_token : (ds : List (Declared Saying)) (i : ℕ) (old new : List (List �
     → TokensSoFar ds i old → new ≡ met old (tokens_in (add_rule d.said [])) → TokensSoFar ds (i + 1) new
 one_token ds i old new d at so are =
     let all : new ≡ met [] (tokens_in (rules_in (take (i + 1) ds))) =
-        are ∙ ap (λ l. met l (tokens_in (add_rule d.said []))) so.are
-            ∙ sym (met-append [] (tokens_in (rules_in (take i ds))) (tokens_in (add_rule d.said [])))
-            ∙ ap (met []) (sym (tokens_together (rules_in (take i ds)) (add_rule d.said [])) ∙ ap tokens_in (sym (next_rules ds i d at))) in
+    are ∙ ap (λ l. met l (tokens_in (add_rule d.said []))) so.are
+    ∙ sym (met-append [] (tokens_in (rules_in (take i ds))) (tokens_in (add_rule d.said [])))
+    ∙ ap (met []) (sym (tokens_together (rules_in (take i ds)) (add_rule d.said [])) ∙ ap tokens_in (sym (next_rules ds i d at))) in
     record { are = all; few = tokens_few ds (i + 1) new all }
 
 pub all_tokens : (ds : List (Declared Saying)) (i : ℕ) (names : List (List ℕ)) → i ≡ length ds → TokensSoFar ds i names
@@ -89,8 +89,8 @@ module _ (states tokens : List (List ℕ)) (ds : List (Declared Saying)) where
       → new ≡ old ++ map (rule_by states tokens) (add_rule d.said []) → RulesSoFar (i + 1) new
   one_rule i old new d at so are =
       are ∙ ap (λ l. l ++ map (rule_by states tokens) (add_rule d.said [])) so
-          ∙ sym (map-append (rule_by states tokens) (rules_in (take i ds)) (add_rule d.said []))
-          ∙ ap (map (rule_by states tokens)) (sym (next_rules ds i d at))
+      ∙ sym (map-append (rule_by states tokens) (rules_in (take i ds)) (add_rule d.said []))
+      ∙ ap (map (rule_by states tokens)) (sym (next_rules ds i d at))
 
   pub all_rules : (i : ℕ) (made : List Rule) → i ≡ length ds → RulesSoFar i made → made ≡ map (rule_by states tokens) (rules_in ds)
   all_rules i made end so = so ∙ ap (λ l. map (rule_by states tokens) (rules_in l)) (take_all ds i end)
@@ -119,7 +119,7 @@ active_made old new known names empty adds = fun_ext (λ k. same_bool (contains 
     one k (inl has) = absurd (empty k has)
     one k (inr is) = is
 
-is_same : (n k : ℕ) → (n == k) ≡ true → k ≡ n
+pub is_same : (n k : ℕ) → (n == k) ≡ true → k ≡ n
 is_same n k is = search rules
 
 is_equal : (n k : ℕ) → k ≡ n → (n == k) ≡ true
@@ -165,7 +165,7 @@ no_number set known name number = record {
 pub nothing_added : (set : BitSet) (known : List (List ℕ)) → AddsActive set set known (Some [])
 nothing_added set known = record { size = refl; only = λ k has. inl has; kept = λ k has. has; more = λ k is. cc }
 
-either : (a b : Bool) → (a || b) ≡ true → (a ≡ true) ⊎ (b ≡ true)
+pub either : (a b : Bool) → (a || b) ≡ true → (a ≡ true) ⊎ (b ≡ true)
 either true b is = inl refl
 either false b is = inr is
 

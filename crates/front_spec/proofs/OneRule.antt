@@ -1,10 +1,9 @@
 -- A line is at most one rule.
-use Rattle.std.proofs.Common.{◌≡◌, ℕ, List, [], ◌∷◌, refl, sym, ap, ◌∙◌, Option, Some, None, codes, arith}
-use Rattle.rex_model.specs.Language.{Re}
+use Rattle.std.proofs.Common.{◌≡◌, ℕ, List, ◌∷◌, refl, sym, ap, ◌∙◌, codes, arith}
 use Rattle.spec_text.specs.Lexemes.{Lexeme, word, sign}
 use Rattle.front_spec.specs.Regexes.{IsRegex, EndsRegex, meaning_of}
 use Rattle.front_spec.specs.RexShapes.{States, Body, Context, NoSlashEnds, Go, Produces, Skips, with_token, without_token, Action, RuleShape}
-use Rattle.spec_text.specs.Parts.{Part, Name, Opt, ListOf, Behind, Before, Then, Or, first as by_first, second as by_second, Seen, Follow, Anything, Nothing, NotFirst}
+use Rattle.spec_text.specs.Parts.{Part, Name, Opt, ListOf, Before, Then, Or, first as by_first, second as by_second, Seen, Follow, Anything, Nothing, NotFirst}
 use Rattle.spec_text.proofs.Readings.{comma}
 use Rattle.spec_text.proofs.One.{One, one_name, one_opt, one_behind, one_before, one_list, one_then}
 use Rattle.front_spec.proofs.OneRegex.{one_regex}
@@ -25,9 +24,9 @@ one_go = one_opt Go Nothing (one_behind Name Nothing (one_name Nothing) (word (c
 one_action : One Action Nothing
 one_action = one_behind (Or (Seen with_token Produces) (Seen without_token Skips)) Nothing
     (one_or (Seen with_token Produces) (Seen without_token Skips) Nothing
-        (one_seen with_token Produces Nothing (one_behind (Then Name (Opt Go)) Nothing (one_then Name (Opt Go) Anything Nothing (one_name Anything) one_go (λ tokens w rest f is. tt)) (word (codes "TOKEN"))))
-        (one_seen without_token Skips Nothing (one_behind (Opt Go) Nothing one_go (word (codes "SKIP"))))
-        (λ tokens rest more v w is is2. apart is.is.after is2.is.after (sym is.is.first ∙ is2.is.first)))
+    (one_seen with_token Produces Nothing (one_behind (Then Name (Opt Go)) Nothing (one_then Name (Opt Go) Anything Nothing (one_name Anything) one_go (λ tokens w rest f is. tt)) (word (codes "TOKEN"))))
+    (one_seen without_token Skips Nothing (one_behind (Opt Go) Nothing one_go (word (codes "SKIP"))))
+    (λ tokens rest more v w is is2. apart is.is.after is2.is.after (sym is.is.first ∙ is2.is.first)))
     (sign (codes ":"))
   where
     apart : (rest more : List Lexeme) → word (codes "TOKEN") ∷ rest ≡ word (codes "SKIP") ∷ more → ⊥
@@ -44,10 +43,10 @@ one_context = one_opt Context NoSlashEnds
 one_states : One (Opt States) NotLess
 one_states = one_opt States NotLess
     (one_behind (Before (ListOf Name) (sign (codes ">"))) NotLess
-        (one_before (ListOf Name) (NotFirst comma) NotLess
-            (one_list Name Anything (NotFirst comma) (one_name Anything) comma (λ rest. tt) (λ rest f. tt) (λ rest f. f rest refl))
-            (sign (codes ">")) (λ rest. greater rest))
-        (sign (codes "<")))
+    (one_before (ListOf Name) (NotFirst comma) NotLess
+    (one_list Name Anything (NotFirst comma) (one_name Anything) comma (λ rest. tt) (λ rest f. tt) (λ rest f. f rest refl))
+    (sign (codes ">")) (λ rest. greater rest))
+    (sign (codes "<")))
     (λ tokens rest v f is. f is.after is.first)
   where
     greater : (rest : List Lexeme) → NotFirst comma (sign (codes ">") ∷ rest)
@@ -56,6 +55,6 @@ one_states = one_opt States NotLess
 pub one_shape : One RuleShape Nothing
 one_shape = one_behind (Then (Opt States) Behind_states) Nothing
     (one_then (Opt States) Behind_states NotLess Nothing one_states
-        (one_then Body Behind_body EndsRegex Nothing one_body
-            (one_then (Opt Context) Action NoSlashEnds Nothing one_context one_action action_first) behind_body_first) body_first)
+    (one_then Body Behind_body EndsRegex Nothing one_body
+    (one_then (Opt Context) Action NoSlashEnds Nothing one_context one_action action_first) behind_body_first) body_first)
     (word (codes "RULE"))

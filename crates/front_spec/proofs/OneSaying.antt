@@ -40,6 +40,7 @@ pub shapeless_line : (file : List ℕ) (line : SpecLine) (is : Line) → IsLineO
     → tokens ≡ said_by is → ((said : Saying) → RexShape tokens said → ⊥)
     → (line.number ≡ is.number) × (Syntax ≡ kind_of is.bad) × ((d : Declared Saying) → Says rex is d → ⊥)
 shapeless_line file line is it good seen none = (
-    ap (λ l. l.number) it.same,
-    (let same : is.bad ≡ None = sym (ap (λ l. l.bad) it.same) ∙ good in rw same refl),
-    λ d says. none d.said (rw seen says.shape))
+  ap (λ l. l.number) it.same,
+  (let same : is.bad ≡ None = sym (ap (λ l. l.bad) it.same) ∙ good in rw same refl),
+  λ d says. none d.said (rw seen says.shape),
+)

@@ -2,9 +2,8 @@
 use Rattle.std.proofs.Common.{◌≡◌, ℕ, zero, suc, ◌+◌, ◌<◌, ◌≤◌, ◌⊎◌, inl, inr, ◌↔◌, IsTrue, Bool, true, false, List, [], ◌∷◌, ◌++◌, length, take, map, get_or, min, refl, sym, ap, ◌∙◌, Option, Some, None, Contains, codes, arith, rules, length-append}
 use Rattle.std.specs.List.{slice_get}
 use Rattle.std.proofs.lemmas.List.{append-nil, length-map}
-use Rattle.ck_base.specs.declared.fault.Kind.{Kind}
 use Rattle.ck_base.specs.declared.fault.Kind.TheVariants.{Limit, Twice, Unknown, Typing}
-use Rattle.ck_base.specs.Numbered.{number_of, met}
+use Rattle.ck_base.specs.Numbered.{met}
 use Rattle.ck_base.proofs.NamesMet.{met_new, none_where_absent}
 use Rattle.spec_text.specs.Declares.{Declared, HasAt, DeclareAll, HasFault, judged, Grow}
 use Rattle.spec_text.specs.FirstFault.{Least, FirstFault, of_kind, Accepts}
@@ -13,7 +12,8 @@ use Rattle.std.specs.Borrow.{Bor}
 use Rattle.spec_text.specs.Seen.{bytes_of}
 use Rattle.spec_text.proofs.Lists.{order, take_step, take_all, get_at, map_get}
 use Rattle.spec_text.proofs.Parting.{contains_at}
-use Rattle.spec_text.proofs.Frame.{NoneBefore, none_at_first, none_more, none_in_all, first_here, before_twice, before_unknown, before_limit, accepted}
+use Rattle.spec_text.proofs.Frame.{NoneBefore, none_at_first, none_more, none_in_all, first_here}
+use Rattle.spec_text.proofs.KindOrder.{before_twice, before_unknown, before_limit, accepted}
 use Rattle.front_spec.specs.RexShapes.{SaidRule, Saying, state, rule}
 use Rattle.front_spec.specs.RexFaults.{add_state, states_in, all_states, positions_of, all_positions, NamesState, active, next, RexFault, second_state, end_token, no_state, too_many_states, too_many_positions, rex}
 use Rattle.front_spec.specs.Seen.{declared_by}
@@ -142,7 +142,10 @@ module _ (ds : List (Declared Saying)) (i : ℕ) (old new : Counts) (d : Declare
       let small : new.positions ≤ 4096 = at_most new.positions 4096 (λ more. fits (inr more)) in
       let exact : new.positions ≡ all_positions (take (i + 1) ds) = by small new.positions refl positions in
       record {
-        states = states_are; positions = exact; few = few; small = small;
+        states = states_are;
+        positions = exact;
+        few = few;
+        small = small;
         none = none_more ds (RexFault ds Limit) i d so.none at (λ fault. within few small exact d.said fault);
       }
     where
@@ -194,16 +197,16 @@ no_type ds line has = by has.place has.declared.said has.fault
 
 module _ (lines : List Line) (ds : List (Declared Saying)) (all : DeclareAll rex lines ds) where
   pub is_twice : (line : ℕ) → Least (HasFault rex ds Twice) line → FirstFault (judged rex lines) line Twice
-  is_twice line least = of_kind ds line Twice all (omega arith) (before_twice rex lines ds) least
+  is_twice line least = of_kind ds line Twice all (omega arith) (before_twice (judged rex lines) ds) least
 
   pub is_unknown : (line : ℕ) → HasNone ds Twice → Least (HasFault rex ds Unknown) line → FirstFault (judged rex lines) line Unknown
-  is_unknown line twice least = of_kind ds line Unknown all (omega arith) (before_unknown rex lines ds twice) least
+  is_unknown line twice least = of_kind ds line Unknown all (omega arith) (before_unknown (judged rex lines) ds twice) least
 
   pub is_limit : (line : ℕ) → HasNone ds Twice → HasNone ds Unknown → Least (HasFault rex ds Limit) line → FirstFault (judged rex lines) line Limit
-  is_limit line twice unknown least = of_kind ds line Limit all (omega arith) (before_limit rex lines ds twice unknown (no_type ds)) least
+  is_limit line twice unknown least = of_kind ds line Limit all (omega arith) (before_limit (judged rex lines) ds twice unknown (no_type ds)) least
 
   pub is_accepted : HasNone ds Twice → HasNone ds Unknown → HasNone ds Limit → Accepts (judged rex lines) ds
-  is_accepted twice unknown limit = accepted rex lines ds all twice unknown (no_type ds) limit
+  is_accepted twice unknown limit = accepted (judged rex lines) ds all twice unknown (no_type ds) limit
 
 pub rule_again : (names : List (List ℕ)) (said : SaidRule) (found : Bool) → IsTrue found ↔ (said.token ≡ Some (codes "END")) → IsAgain names names (rule said) found
 rule_again names said true is = ended said (is.0 refl)
@@ -232,7 +235,7 @@ pub none_missing : (known names : List (List ℕ)) (i : ℕ) → i ≡ length na
 none_missing known names i end before missing =
     let n = missing.among.1 in
     before missing.among.0 missing.name (omega (arith, n, end))
-        (get_at names missing.among.0 missing.name n ∙ ap (λ x. Some x) missing.among.2) missing.unknown
+    (get_at names missing.among.0 missing.name n ∙ ap (λ x. Some x) missing.among.2) missing.unknown
 
 -- the states of a rule that aren't known
 pub active_missing : (known : List (List ℕ)) (said : SaidRule) → ListsMissing known said.states → NamesMissing known said

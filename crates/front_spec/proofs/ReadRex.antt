@@ -1,7 +1,6 @@
 -- What the whole section gives: its rules in their ranges, or its first fault.
-use Rattle.std.proofs.Common.{◌≡◌, ℕ, zero, suc, ◌+◌, ◌^◌, ◌<◌, ◌≤◌, List, [], ◌∷◌, length, take, map, refl, sym, ap, ◌∙◌, Option, Some, None, arith}
+use Rattle.std.proofs.Common.{◌≡◌, ℕ, zero, suc, ◌+◌, ◌<◌, ◌≤◌, List, [], ◌∷◌, length, take, map, refl, ap, ◌∙◌, Option, Some, None, arith, ◌⊎◌, inl, inr, true}
 use Rattle.std.specs.List.{slice_get}
-use Rattle.ck_base.specs.declared.fault.Kind.{Kind}
 use Rattle.ck_base.specs.declared.fault.Kind.TheVariants.{Limit}
 use Rattle.ck_base.specs.declared.fault.SpecFault.{SpecFault}
 use Rattle.ck_base.specs.declared.fault.SpecFault.TheVariants.{Bad, NoMemory}
@@ -12,7 +11,7 @@ use Rattle.rex_model.specs.Positions.{position_count}
 use Rattle.rex_model.specs.Rules.{Rule, Rules, trailing}
 use Rattle.rex_model.specs.Sets.{marked_rules}
 use Rattle.std.proofs.lemmas.List.{length-map}
-use Rattle.spec_text.specs.Declares.{Declared, DeclareAll, Grow, HasAt, HasFault, IsFirstFault, judged}
+use Rattle.spec_text.specs.Declares.{Declared, DeclareAll, Grow, IsFirstFault, judged}
 use Rattle.spec_text.specs.Lines.{Line}
 use Rattle.spec_text.specs.Spans.{AreLinesOf}
 use Rattle.spec_text.specs.declared.section.SectionText.{SectionText}
@@ -27,8 +26,9 @@ use Rattle.spec_text.specs.Sections.{SectionLines}
 use Rattle.spec_text.specs.declared.section.Section.TheVariants.{Rex}
 use Rattle.spec_text.proofs.Lists.{take_all, get_fits}
 use Rattle.front_spec.specs.RexShapes.{SaidRule, Saying, state, rule}
-use Rattle.front_spec.specs.RexFaults.{all_states, context_positions, positions_of, all_positions, RexFault, too_many_states, too_many_positions, rex}
-use Rattle.front_spec.specs.RexRules.{add_rule, rules_in, tokens_in, number_in, rule_by, rules_by}
+use Rattle.front_spec.specs.RexFaults.{all_states, context_positions, positions_of, all_positions, too_many_states, too_many_positions, rex}
+use Rattle.front_spec.specs.RexRules.{add_rule, rules_in, tokens_in, number_in, rule_by, rules_by, is_number, active_in}
+use Rattle.front_spec.proofs.MadeRules.{is_same, either}
 use Rattle.front_spec.specs.Promise.{IsRexFault}
 use Rattle.front_spec.specs.Steps.{HasNone}
 
@@ -75,17 +75,23 @@ within (d ∷ ds) none = (at_most (all_positions (d ∷ ds)) 4096 positions, at_
 
     positions : 4096 < all_positions (d ∷ ds) → ⊥
     positions more = let last = last_at d ds in none last.0.number (record {
-      place = length ds; declared = last.0; is = last.1; number = refl;
+      place = length ds;
+      declared = last.0;
+      is = last.1;
+      number = refl;
       fault = too_many_positions (length ds) last.0.said (rw all more);
     })
 
     states : 64 < length (all_states (d ∷ ds)) → ⊥
     states more = let last = last_at d ds in none last.0.number (record {
-      place = length ds; declared = last.0; is = last.1; number = refl;
+      place = length ds;
+      declared = last.0;
+      is = last.1;
+      number = refl;
       fault = too_many_states (length ds) last.0.said (rw all more);
     })
 
--- the next state is one of the start states
+-- a number is one of the names, as the next state of the start states
 next_of : (states : List (List ℕ)) (name : Option (List ℕ)) (n : ℕ) → number_in states name ≡ Some n → n < length states
 next_of states None n is = cc
 next_of states (Some name) n is = get_fits states n name (name_at_number states name n is)
@@ -96,6 +102,41 @@ next_in states tokens [] i n made at is = cc
 next_in states tokens (said ∷ rules) zero n made at is =
     let same : rule_by states tokens said ≡ made = cc in next_of states said.next n (ap (λ r. r.next) same ∙ is)
 next_in states tokens (said ∷ rules) (suc i) n made at is = next_in states tokens rules i n made at is
+
+-- and a token is one of the names of tokens
+token_in : (states tokens : List (List ℕ)) (rules : List SaidRule) (i n : ℕ) (made : Rule) → slice_get (map (rule_by states tokens) rules) i ≡ Some made
+    → made.token ≡ Some n → n < length tokens
+token_in states tokens [] i n made at is = cc
+token_in states tokens (said ∷ rules) zero n made at is =
+    let same : rule_by states tokens said ≡ made = cc in next_of tokens said.token n (ap (λ r. r.token) same ∙ is)
+token_in states tokens (said ∷ rules) (suc i) n made at is = token_in states tokens rules i n made at is
+
+-- so are the states where a rule is active
+numbered : (states : List (List ℕ)) (name : List ℕ) (k : ℕ) → is_number (number_of states name) k ≡ true → k < length states
+numbered states name k is = by (number_of states name) refl is
+  where
+    by : (number : Option ℕ) → number_of states name ≡ number → is_number number k ≡ true → k < length states
+    by None same is = cc
+    by (Some n) same is =
+        let k_is = is_same n k is in let less = get_fits states n name (name_at_number states name n same) in omega (arith, k_is, less)
+
+active_of : (states : List (List ℕ)) (names : Option (List (List ℕ))) (k : ℕ) → 0 < length states → active_in states names k ≡ true → k < length states
+active_of states None k some is = let k_is = is_same k 0 is in omega (arith, k_is, some)
+active_of states (Some []) k some is = cc
+active_of states (Some (name ∷ names)) k some is =
+    by (either (is_number (number_of states name) k) (active_in states (Some names) k) is) (active_of states (Some names) k some)
+  where
+    by : (is_number (number_of states name) k ≡ true) ⊎ (active_in states (Some names) k ≡ true)
+        → (active_in states (Some names) k ≡ true → k < length states) → k < length states
+    by (inl here) more = numbered states name k here
+    by (inr there) more = more there
+
+active_among : (states tokens : List (List ℕ)) (rules : List SaidRule) (i k : ℕ) (made : Rule) → 0 < length states
+    → slice_get (map (rule_by states tokens) rules) i ≡ Some made → made.active k ≡ true → k < length states
+active_among states tokens [] i k made some at is = cc
+active_among states tokens (said ∷ rules) zero k made some at is =
+    let same : rule_by states tokens said ≡ made = cc in active_of states said.states k some (ap (λ r. r.active k) same ∙ is)
+active_among states tokens (said ∷ rules) (suc i) k made some at is = active_among states tokens rules i k made some at is
 
 few_rules : (ds : List (Declared Saying)) → length (rules_in ds) ≤ length ds
 few_rules [] = omega arith
@@ -121,6 +162,13 @@ module _ (rules : Rules) (ds : List (Declared Saying)) (are : rules ≡ rules_by
   pub next_fits : (i n : ℕ) (made : Rule) → slice_get rules.list i ≡ Some made → made.next ≡ Some n → n < length rules.states
   next_fits i n made at is = rw are (next_in (all_states ds) (met [] (tokens_in (rules_in ds))) (rules_in ds) i n made (rw are at at) is)
 
+  pub tokens_fit : (i n : ℕ) (made : Rule) → slice_get rules.list i ≡ Some made → made.token ≡ Some n → n < length rules.tokens
+  tokens_fit i n made at is = rw are (token_in (all_states ds) (met [] (tokens_in (rules_in ds))) (rules_in ds) i n made (rw are at at) is)
+
+  pub active_fits : (i k : ℕ) (made : Rule) → slice_get rules.list i ≡ Some made → made.active k ≡ true → k < length rules.states
+  active_fits i k made at is =
+      rw are (active_among (all_states ds) (met [] (tokens_in (rules_in ds))) (rules_in ds) i k made (omega arith) (rw are at at) is)
+
   pub rules_fit : (size : ℕ) → length ds ≤ size → length rules.list ≤ size
   rules_fit size few = rw are (let less = few_rules ds in
       let long = long_map (rule_by (all_states ds) (met [] (tokens_in (rules_in ds)))) (rules_in ds) in omega (arith, less, long, few))
@@ -134,6 +182,8 @@ pub record IsMade (file : List ℕ) (rules : Rules) : Type 0 where
   pub are : rules ≡ rules_by declared
   pub positions : position_count (marked_rules rules.list) ≤ 4096
   pub next : (i n : ℕ) (made : Rule) → slice_get rules.list i ≡ Some made → made.next ≡ Some n → n < length rules.states
+  pub tokens : (i n : ℕ) (made : Rule) → slice_get rules.list i ≡ Some made → made.token ≡ Some n → n < length rules.tokens
+  pub active : (i k : ℕ) (made : Rule) → slice_get rules.list i ≡ Some made → made.active k ≡ true → k < length rules.states
   pub states : length rules.states ≤ 64
   pub few : length rules.list < 4294967296
 
@@ -162,14 +212,20 @@ module _ (file : List ℕ) (text : SectionText) (section : IsSectionOf file Rex 
   made first second third is is2 is3 states tokens rules states_are accepts tokens_are rules_are =
       let ds : List (Declared Saying) = map declared_by list in
       let accepted : Accepts (judged rex section.these.inside) ds =
-          rw is at (accepts section.these.inside (all_declared first is)) in
+      rw is at (accepts section.these.inside (all_declared first is)) in
       let are : ◌≡◌ {A = Rules} (record { states = states; tokens = tokens; list = rules }) (rules_by ds) =
-          made_rules states tokens rules ds (rw is at states_are) (rw is2 at tokens_are) (rw is3 at rules_are) in
+      made_rules states tokens rules ds (rw is at states_are) (rw is2 at tokens_are) (rw is3 at rules_are) in
       let none : HasNone ds Limit = (λ line has. accepted.no_fault Limit line (omega arith) has) in
       record {
-        these = section.these; section = section.has; declared = ds; accepted = accepted; are = are;
+        these = section.these;
+        section = section.has;
+        declared = ds;
+        accepted = accepted;
+        are = are;
         positions = positions_fit _ ds are none;
         next = next_fits _ ds are;
+        tokens = tokens_fit _ ds are;
+        active = active_fits _ ds are;
         states = states_fit _ ds are none;
         few = (let less = rules_fit _ ds are 1048576 (let l = list_few in let long = length-map list declared_by in omega (arith, l, long)) in omega (arith, less));
       }

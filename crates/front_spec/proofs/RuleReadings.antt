@@ -1,12 +1,10 @@
 -- How the line of a rule is read.
-use Rattle.std.proofs.Common.{◌≡◌, ℕ, zero, suc, List, [], ◌∷◌, ◌++◌, map, refl, sym, ap, ◌∙◌, Option, Some, None, codes, arith}
-use Rattle.std.specs.Borrow.{Bor}
-use Rattle.std.proofs.lemmas.List.{map-append}
+use Rattle.std.proofs.Common.{◌≡◌, ℕ, zero, suc, List, [], ◌∷◌, refl, sym, ap, ◌∙◌, Option, Some, None, codes, arith}
 use Rattle.rex_model.specs.Language.{Re}
 use Rattle.spec_text.specs.Lexemes.{Lexeme, word, sign}
-use Rattle.front_spec.specs.Regexes.{Written, Leaf, a_string, a_class, a_dot, Signed, plain, signed, IsRegex, AtomIn, meaning_of, PieceOver, RowOver, EndsRow, EndsRegex}
+use Rattle.front_spec.specs.Regexes.{Written, Leaf, a_string, a_class, a_dot, Signed, plain, signed, IsRegex, AtomIn, PieceOver, RowOver, EndsRegex}
 use Rattle.front_spec.specs.RexShapes.{States, Body, Context, NoSlashEnds, Go, Produces, Skips, with_token, without_token, Action, SaidRule, RuleLine}
-use Rattle.spec_text.specs.Parts.{Part, Fixed, Name, Opt, absent, present, ListBy, ListOf, last, next, Some1, last_one, one_more, Behind, Before, Then, Or, first as by_first, second as by_second, Seen, Follow, Anything, Nothing, NotFirst, Reading, NoReading}
+use Rattle.spec_text.specs.Parts.{Part, Fixed, Name, Opt, absent, present, ListBy, ListOf, last, next, Some1, last_one, one_more, Before, Then, Or, first as by_first, second as by_second, Seen, Follow, Nothing, NotFirst, Reading, NoReading}
 use Rattle.spec_text.proofs.Readings.{name_reading, comma, opt_present, opt_absent, opt_none, behind, before, none_behind, not_behind, none_first, none_second}
 use Rattle.front_spec.proofs.RegexParts.{same_code, no_glyph, no_leaf_at}
 
@@ -25,9 +23,9 @@ pub states_reading : (tokens inner rest after : List Lexeme) (names : List (List
     → Fixed (sign (codes ">")) rest after → Reading (Opt States) NotLess tokens (Some names) after
 states_reading tokens inner rest after names at reading end =
     opt_present States NotLess tokens after names
-        (behind (Before (ListOf Name) (sign (codes ">"))) NotLess (sign (codes "<")) tokens inner after names at
-            (before (ListOf Name) (NotFirst comma) NotLess (sign (codes ">")) (λ rest. greater rest) inner rest after names reading end))
-        (λ none. none inner at)
+    (behind (Before (ListOf Name) (sign (codes ">"))) NotLess (sign (codes "<")) tokens inner after names at
+    (before (ListOf Name) (NotFirst comma) NotLess (sign (codes ">")) (λ rest. greater rest) inner rest after names reading end))
+    (λ none. none inner at)
   where
     greater : (rest : List Lexeme) → NotFirst comma (sign (codes ">") ∷ rest)
     greater rest = λ more e. (cc)
@@ -126,8 +124,8 @@ module _ (tokens behind_rule behind_states : List Lexeme) (states : Option (List
   none_of_rest : NoReading Behind_states Nothing behind_states → (rule : SaidRule) → RuleLine tokens rule → ⊥
   none_of_rest none rule is =
       none_behind (Then (Opt States) Behind_states) Nothing (word (codes "RULE")) tokens behind_rule starts
-          (none_second (Opt States) Behind_states NotLess Nothing body_first behind_rule behind_states states reading none)
-          (rule.states, (rule.body, (rule.context, (rule.token, rule.next)))) [] refl is
+      (none_second (Opt States) Behind_states NotLess Nothing body_first behind_rule behind_states states reading none)
+      (rule.states, (rule.body, (rule.context, (rule.token, rule.next)))) [] refl is
 
   pub no_body : NoReading Body EndsRegex behind_states → (rule : SaidRule) → RuleLine tokens rule → ⊥
   no_body none = none_of_rest (none_first Body Behind_body EndsRegex Nothing behind_body_first behind_states none)
@@ -163,5 +161,5 @@ neither_action tokens after at no_token no_skip = none_behind (Or (Seen with_tok
 pub no_states_part : (tokens behind_rule : List Lexeme) → Fixed (word (codes "RULE")) tokens behind_rule → NoReading (Opt States) NotLess behind_rule → (rule : SaidRule) → RuleLine tokens rule → ⊥
 no_states_part tokens behind_rule starts none rule is =
     none_behind (Then (Opt States) Behind_states) Nothing (word (codes "RULE")) tokens behind_rule starts
-        (none_first (Opt States) Behind_states NotLess Nothing body_first behind_rule none)
-        (rule.states, (rule.body, (rule.context, (rule.token, rule.next)))) [] refl is
+    (none_first (Opt States) Behind_states NotLess Nothing body_first behind_rule none)
+    (rule.states, (rule.body, (rule.context, (rule.token, rule.next)))) [] refl is

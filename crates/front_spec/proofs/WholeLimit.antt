@@ -1,10 +1,10 @@
 -- The limit within an expression is the limit of the whole.
-use Rattle.std.proofs.Common.{◌≡◌, ℕ, zero, suc, ◌+◌, ◌≤◌, max, List, [], ◌∷◌, map, refl, sym, codes, arith}
+use Rattle.std.proofs.Common.{◌≡◌, ℕ, zero, suc, ◌+◌, ◌≤◌, List, [], ◌∷◌, map, refl, codes, arith}
 use Rattle.rex_model.specs.Language.{Re}
 use Rattle.rex_model.specs.Meaning.{sequence_of, alternative_of}
 use Rattle.spec_text.specs.Lexemes.{Lexeme, sign}
 use Rattle.spec_text.specs.Parts.{Part, Some1, last_one, one_more, ListBy, last, next, Behind, Before, Or, first as by_first, second as by_second, Seen}
-use Rattle.front_spec.specs.Regexes.{Written, Leaf, Signed, plain, signed, with_sign, Limited, deepest, meaning_of, joined, row_of, choice_of, group, PieceOver, RowOver, RegexOver, AtomIn, RegexIn}
+use Rattle.front_spec.specs.Regexes.{Written, Leaf, Signed, plain, signed, deepest, meaning_of, joined, row_of, choice_of, group, PieceOver, RowOver, RegexOver, AtomIn, RegexIn}
 
 -- the same without limits
 abbrev pub FreeRow : Part Written → Part Written

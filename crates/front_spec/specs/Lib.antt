@@ -2,6 +2,8 @@ pub mod Regexes
 pub mod RexShapes
 pub mod RexFaults
 pub mod RexRules
+pub mod GrammarShapes
+pub mod GrammarFaults
 pub mod Seen
 pub mod Promise
 pub mod Steps

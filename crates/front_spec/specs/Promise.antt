@@ -3,8 +3,7 @@ use Rattle.std.specs.Prelude.{◌≡◌, ℕ, List}
 use Rattle.ck_base.specs.declared.fault.Kind.{Kind}
 use Rattle.ck_base.specs.declared.fault.SpecFault.{SpecFault}
 use Rattle.ck_base.specs.declared.fault.SpecFault.TheVariants.{Bad, NoMemory}
-use Rattle.rex_model.specs.RuleMeaning.{rules_of}
-use Rattle.rex_model.specs.declared.rules.ScanRules.{ScanRules}
+use Rattle.rex_model.specs.Rules.{Rules}
 use Rattle.spec_text.specs.Declares.{Declared, judged}
 use Rattle.spec_text.specs.FirstFault.{FirstFault, Accepts}
 use Rattle.spec_text.specs.Promise.{HasSection}
@@ -15,12 +14,12 @@ use Rattle.front_spec.specs.RexFaults.{rex}
 use Rattle.front_spec.specs.RexRules.{rules_by}
 
 -- the section REX of the file declares these scan rules, and has no fault
-pub record DeclaresRules (file : List ℕ) (rules : ScanRules) : Type 0 where
+pub record DeclaresRules (file : List ℕ) (rules : Rules) : Type 0 where
   pub lines : SectionLines
   pub section : HasSection file Rex lines
   pub declared : List (Declared Saying)
   pub accepted : Accepts (judged rex lines.inside) declared
-  pub are : rules_of rules ≡ rules_by declared
+  pub are : rules ≡ rules_by declared
 
 -- the first fault of the section REX of the file
 pub record FirstRexFault (file : List ℕ) (line : ℕ) (kind : Kind) : Type 0 where

@@ -69,7 +69,10 @@ fn declared_in<'a, 's>(
     }
     let tokens = tokens_in(alloc, texts, spec, line)?;
     let Some(says) = says_of(alloc, arena, tokens.as_slice())? else {
-        return Err(SpecFault::Bad { line: number, kind: Kind::Syntax });
+        return Err(SpecFault::Bad {
+            line: number,
+            kind: Kind::Syntax,
+        });
     };
     Ok(Declaration { number, says })
 }
@@ -100,9 +103,5 @@ fn state_line<'s>(tokens: &[Token<'s>]) -> Option<&'s [u8]>
 {
     let rest = after_word(tokens, b"STATE")?;
     let (name, rest) = name_of(rest)?;
-    if rest.is_empty() {
-        Some(name)
-    } else {
-        None
-    }
+    if rest.is_empty() { Some(name) } else { None }
 }

@@ -157,7 +157,10 @@ pub(crate) fn first_limit(list: &[Declaration<'_, '_>]) -> Option<u32>
     ensures { let ds = map declared_by list.now in
         MatchOption result (HasNone ds limit) (Least (HasFault rex ds limit)) }
 {
-    let mut counts = Counts { states: 1, positions: 0 };
+    let mut counts = Counts {
+        states: 1,
+        positions: 0,
+    };
     for item in list {
         counts = with(counts, &item.says);
         if exceeds(counts) {
@@ -175,7 +178,10 @@ fn with(counts: Counts, says: &Says<'_, '_>) -> Counts
     ensures positions { IsCount result.positions (counts.positions + positions_of (saying says.now)) }
 {
     match says {
-        Says::State(_) => Counts { states: counts.states + 1, positions: counts.positions },
+        Says::State(_) => Counts {
+            states: counts.states + 1,
+            positions: counts.positions,
+        },
         Says::Rule(rule) => Counts {
             states: counts.states,
             positions: counts.positions + positions_in(rule),

@@ -11,18 +11,15 @@ ghost use Rattle.front_spec.specs.RexFaults.{rex};
 pub fn at_most_one_regex()
     ensures { (tokens rest more : List Lexeme) (v w : Written) → EndsRegex rest → EndsRegex more
         → IsRegex tokens v rest → IsRegex tokens w more → (v ≡ w) × (rest ≡ more) }
-{
-}
+{}
 
 /// Law: a line of REX declares one thing at most.
 pub fn at_most_one_declaration()
     ensures { (tokens : List Lexeme) (said other : Saying) → RexShape tokens said
         → RexShape tokens other → said ≡ other }
-{
-}
+{}
 
 /// Law: exactly one of the first fault of REX and its declarations is there.
 pub fn fault_or_declarations()
     ensures { (lines : List Line) → LinesGrow lines → ExactlyOne (judged rex lines) }
-{
-}
+{}

@@ -15,14 +15,14 @@ use std::alloc::Global;
 
 /// An expression that was read, and its nesting.
 #[derive(Clone, Copy)]
-pub struct Read<'a> {
+pub(crate) struct Read<'a> {
     pub body: Regex<'a>,
     pub nesting: u32,
 }
 
 /// How often the words of a piece come.
 #[derive(Clone, Copy)]
-pub enum Repeat {
+pub(crate) enum Repeat {
     /// Any number of times: `*`.
     Star,
     /// Once or more: `+`.
@@ -34,14 +34,17 @@ pub enum Repeat {
 /// The expression with which the tokens begin, and what follows it; at most so many parentheses
 /// stand round one another.
 #[cycle(regex)]
-pub fn regex<'a, 't, 's>(
+pub(crate) fn regex<'a, 't, 's>(
     arena: &'a Bump<Global>,
     tokens: &'t [Token<'s>],
     depth: u32,
 ) -> Result<Option<(Read<'a>, &'t [Token<'s>])>, NoMemory>
-    ensures reading { IfOk result (λ found. MatchOption found (NoReading (RegexIn depth) EndsRegex (map seen tokens.now))
-        (λ read. Reading (RegexIn depth) EndsRegex (map seen tokens.now) (written_of read.0) (map seen read.1.now))) }
-    ensures fits { IfOk result (λ found. IfSome found (λ read. (read.0.nesting ≤ 64) × (length read.1.now < length tokens.now))) }
+    ensures reading { IfOk result (λ found. MatchOption found
+        (NoReading (RegexIn depth) EndsRegex (map seen tokens.now))
+        (λ read. Reading (RegexIn depth) EndsRegex (map seen tokens.now) (written_of read.0)
+        (map seen read.1.now))) }
+    ensures fits { IfOk result (λ found. IfSome found (λ read.
+        (read.0.nesting ≤ 64) × (length read.1.now < length tokens.now))) }
 {
     let Some((first, rest)) = row(arena, tokens, depth)? else {
         return Ok(None);
@@ -73,9 +76,12 @@ fn row<'a, 't, 's>(
     tokens: &'t [Token<'s>],
     depth: u32,
 ) -> Result<Option<(Read<'a>, &'t [Token<'s>])>, NoMemory>
-    ensures reading { IfOk result (λ found. MatchOption found (NoReading (RowOver (AtomIn depth)) EndsRow (map seen tokens.now))
-        (λ read. Reading (RowOver (AtomIn depth)) EndsRow (map seen tokens.now) (written_of read.0) (map seen read.1.now))) }
-    ensures fits { IfOk result (λ found. IfSome found (λ read. (read.0.nesting ≤ 65) × (length read.1.now < length tokens.now))) }
+    ensures reading { IfOk result (λ found. MatchOption found
+        (NoReading (RowOver (AtomIn depth)) EndsRow (map seen tokens.now))
+        (λ read. Reading (RowOver (AtomIn depth)) EndsRow (map seen tokens.now)
+        (written_of read.0) (map seen read.1.now))) }
+    ensures fits { IfOk result (λ found. IfSome found (λ read.
+        (read.0.nesting ≤ 65) × (length read.1.now < length tokens.now))) }
 {
     let Some((first, rest)) = piece(arena, tokens, depth)? else {
         return Ok(None);
@@ -99,9 +105,12 @@ fn piece<'a, 't, 's>(
     tokens: &'t [Token<'s>],
     depth: u32,
 ) -> Result<Option<(Read<'a>, &'t [Token<'s>])>, NoMemory>
-    ensures reading { IfOk result (λ found. MatchOption found (NoReading (PieceOver (AtomIn depth)) NotSign (map seen tokens.now))
-        (λ read. Reading (PieceOver (AtomIn depth)) NotSign (map seen tokens.now) (written_of read.0) (map seen read.1.now))) }
-    ensures fits { IfOk result (λ found. IfSome found (λ read. (read.0.nesting ≤ 64) × (length read.1.now < length tokens.now))) }
+    ensures reading { IfOk result (λ found. MatchOption found
+        (NoReading (PieceOver (AtomIn depth)) NotSign (map seen tokens.now))
+        (λ read. Reading (PieceOver (AtomIn depth)) NotSign (map seen tokens.now)
+        (written_of read.0) (map seen read.1.now))) }
+    ensures fits { IfOk result (λ found. IfSome found (λ read.
+        (read.0.nesting ≤ 64) × (length read.1.now < length tokens.now))) }
 {
     let Some((first, rest)) = atom(arena, tokens, depth)? else {
         return Ok(None);
@@ -129,9 +138,12 @@ fn atom<'a, 't, 's>(
     tokens: &'t [Token<'s>],
     depth: u32,
 ) -> Result<Option<(Read<'a>, &'t [Token<'s>])>, NoMemory>
-    ensures reading { IfOk result (λ found. MatchOption found (NoReading (AtomIn depth) Anything (map seen tokens.now))
-        (λ read. Reading (AtomIn depth) Anything (map seen tokens.now) (written_of read.0) (map seen read.1.now))) }
-    ensures fits { IfOk result (λ found. IfSome found (λ read. (read.0.nesting ≤ 65) × (length read.1.now < length tokens.now))) }
+    ensures reading { IfOk result (λ found. MatchOption found
+        (NoReading (AtomIn depth) Anything (map seen tokens.now))
+        (λ read. Reading (AtomIn depth) Anything (map seen tokens.now) (written_of read.0)
+        (map seen read.1.now))) }
+    ensures fits { IfOk result (λ found. IfSome found (λ read.
+        (read.0.nesting ≤ 65) × (length read.1.now < length tokens.now))) }
 {
     if let Some((body, rest)) = leaf(arena, tokens)? {
         return Ok(Some((Read { body, nesting: 1 }, rest)));
@@ -148,7 +160,13 @@ fn atom<'a, 't, 's>(
     let Some(rest) = after_sign(rest, b")") else {
         return Ok(None);
     };
-    Ok(Some((Read { body: read.body, nesting: read.nesting + 1 }, rest)))
+    Ok(Some((
+        Read {
+            body: read.body,
+            nesting: read.nesting + 1,
+        },
+        rest,
+    )))
 }
 
 /// The string, the class or the `.` with which the tokens begin, and what follows it.
@@ -156,8 +174,10 @@ fn leaf<'a, 't, 's>(
     arena: &'a Bump<Global>,
     tokens: &'t [Token<'s>],
 ) -> Result<Option<(Regex<'a>, &'t [Token<'s>])>, NoMemory>
-    ensures reading { IfOk result (λ found. MatchOption found ((w : Written) (rest : List Lexeme) → Leaf (map seen tokens.now) w rest → ⊥)
-        (λ read. Leaf (map seen tokens.now) (record { re = meaning read.0; nesting = 1 }) (map seen read.1.now))) }
+    ensures reading { IfOk result (λ found. MatchOption found
+        ((w : Written) (rest : List Lexeme) → Leaf (map seen tokens.now) w rest → ⊥)
+        (λ read. Leaf (map seen tokens.now) (record { re = meaning read.0; nesting = 1 })
+        (map seen read.1.now))) }
     ensures fits { IfOk result (λ found. IfSome found (λ read. length read.1.now < length tokens.now)) }
 {
     let Some((first, rest)) = tokens.split_first() else {
@@ -208,7 +228,8 @@ fn with_repeat<'a>(
     repeat: Repeat,
 ) -> Result<Read<'a>, NoMemory>
     requires { read.nesting < 64 }
-    ensures { IfOk result (λ more. written_of more ≡ with_sign (sign_in repeat) (written_of read.entry)) }
+    ensures { IfOk result (λ more.
+        written_of more ≡ with_sign (sign_in repeat) (written_of read.entry)) }
 {
     let part: &Regex<'a> = arena.try_alloc(read.body)?;
     let body = match repeat {
@@ -216,7 +237,10 @@ fn with_repeat<'a>(
         Repeat::Plus => Regex::Plus(part),
         Repeat::Opt => Regex::Opt(part),
     };
-    Ok(Read { body, nesting: read.nesting + 1 })
+    Ok(Read {
+        body,
+        nesting: read.nesting + 1,
+    })
 }
 
 /// The parts one after the other.
@@ -226,9 +250,15 @@ fn all_of<'a>(parts: Vec<Regex<'a>, &'a Bump<Global>>, deepest: u32) -> Read<'a>
     ensures within { result.nesting ≤ 65 }
 {
     if let [one] = parts.as_slice() {
-        return Read { body: *one, nesting: deepest };
+        return Read {
+            body: *one,
+            nesting: deepest,
+        };
     }
-    Read { body: Regex::Seq(into_bump_slice(parts)), nesting: deepest + 1 }
+    Read {
+        body: Regex::Seq(into_bump_slice(parts)),
+        nesting: deepest + 1,
+    }
 }
 
 /// One of the parts.
@@ -237,7 +267,13 @@ fn one_of<'a>(parts: Vec<Regex<'a>, &'a Bump<Global>>, deepest: u32) -> Read<'a>
     ensures { written_of result ≡ joined alternative_of (map meaning parts.entry.items) deepest }
 {
     if let [one] = parts.as_slice() {
-        return Read { body: *one, nesting: deepest };
+        return Read {
+            body: *one,
+            nesting: deepest,
+        };
     }
-    Read { body: Regex::Alt(into_bump_slice(parts)), nesting: deepest + 1 }
+    Read {
+        body: Regex::Alt(into_bump_slice(parts)),
+        nesting: deepest + 1,
+    }
 }

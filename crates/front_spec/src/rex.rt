@@ -1,4 +1,4 @@
-ghost use Rattle.std.specs.Prelude.{◌≡◌, ℕ, ◌+◌, ◌^◌, ◌<◌, ◌≤◌, List, Some, length, map, slice_get, IfOk, IfErr};
+ghost use Rattle.std.specs.Prelude.{◌≡◌, ℕ, ◌+◌, ◌^◌, ◌<◌, ◌≤◌, List, Some, true, length, map, slice_get, IfOk, IfErr};
 ghost use Rattle.rex_model.specs.Positions.{position_count};
 ghost use Rattle.rex_model.specs.RuleMeaning.{rules_of};
 ghost use Rattle.rex_model.specs.Rules.{Rule};
@@ -32,13 +32,19 @@ pub fn read_rex<'a>(
 ) -> Result<ScanRules<'a>, SpecFault>
     requires size { length spec.now ≤ 1048576 }
     requires read { AreSectionsOf spec.now s.now }
-    ensures rules { IfOk result (DeclaresRules spec.now) }
+    ensures rules { IfOk result (λ rules. DeclaresRules spec.now (rules_of rules)) }
     ensures fault { IfErr result (IsRexFault spec.now) }
     ensures positions { IfOk result (λ rules.
         position_count (marked_rules (rules_of rules).list) ≤ 4096) }
     ensures next { IfOk result (λ rules. (i n : ℕ) (rule : Rule)
         → slice_get (rules_of rules).list i ≡ Some rule → rule.next ≡ Some n
         → n < length (rules_of rules).states) }
+    ensures tokens { IfOk result (λ rules. (i n : ℕ) (rule : Rule)
+        → slice_get (rules_of rules).list i ≡ Some rule → rule.token ≡ Some n
+        → n < length (rules_of rules).tokens) }
+    ensures active { IfOk result (λ rules. (i k : ℕ) (rule : Rule)
+        → slice_get (rules_of rules).list i ≡ Some rule → rule.active k ≡ true
+        → k < length (rules_of rules).states) }
     ensures states { IfOk result (λ rules. length (rules_of rules).states ≤ 64) }
     ensures few { IfOk result (λ rules. length (rules_of rules).list < 2 ^ 32) }
 {
@@ -48,7 +54,11 @@ pub fn read_rex<'a>(
     let states = states_of(alloc, list.as_slice())?;
     let tokens = token_names(alloc, list.as_slice())?;
     let rules = scan_rules(alloc, arena, &states, &tokens, list.as_slice())?;
-    Ok(ScanRules { states, tokens, rules })
+    Ok(ScanRules {
+        states,
+        tokens,
+        rules,
+    })
 }
 
 /// The names of the start states, or the first fault among lines that all have a shape.
@@ -65,13 +75,22 @@ fn states_of(alloc: Global, list: &[Declaration<'_, '_>]) -> Result<Names, SpecF
     let mut names = Names::new(alloc);
     names.intern(b"STD")?;
     if let Some(line) = first_twice(&mut names, list)? {
-        return Err(SpecFault::Bad { line, kind: Kind::Twice });
+        return Err(SpecFault::Bad {
+            line,
+            kind: Kind::Twice,
+        });
     }
     if let Some(line) = first_unknown(&names, list) {
-        return Err(SpecFault::Bad { line, kind: Kind::Unknown });
+        return Err(SpecFault::Bad {
+            line,
+            kind: Kind::Unknown,
+        });
     }
     if let Some(line) = first_limit(list) {
-        return Err(SpecFault::Bad { line, kind: Kind::Limit });
+        return Err(SpecFault::Bad {
+            line,
+            kind: Kind::Limit,
+        });
     }
     Ok(names)
 }

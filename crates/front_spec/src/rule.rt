@@ -19,8 +19,10 @@ fn opt_states<'t, 's>(
     alloc: Global,
     tokens: &'t [Token<'s>],
 ) -> Result<Option<(Option<Vec<&'s [u8]>>, &'t [Token<'s>])>, NoMemory>
-    ensures { IfOk result (λ found. MatchOption found (NoReading (Opt States) (NotFirst (sign (codes "<"))) (map seen tokens.now))
-        (λ part. Reading (Opt States) (NotFirst (sign (codes "<"))) (map seen tokens.now) (names_in part.0) (map seen part.1.now))) }
+    ensures { IfOk result (λ found. MatchOption found
+        (NoReading (Opt States) (NotFirst (sign (codes "<"))) (map seen tokens.now))
+        (λ part. Reading (Opt States) (NotFirst (sign (codes "<"))) (map seen tokens.now)
+        (names_in part.0) (map seen part.1.now))) }
 {
     let Some(inner) = after_sign(tokens, b"<") else {
         return Ok(Some((None, tokens)));
@@ -37,7 +39,8 @@ fn opt_states<'t, 's>(
 /// The state that a rule goes to, where it names one, and what follows.
 fn opt_go<'t, 's>(tokens: &'t [Token<'s>]) -> Option<(Option<&'s [u8]>, &'t [Token<'s>])>
     ensures { MatchOption result (NoReading (Opt Go) Nothing (map seen tokens.now))
-        (λ part. Reading (Opt Go) Nothing (map seen tokens.now) (name_in part.0) (map seen part.1.now)) }
+        (λ part. Reading (Opt Go) Nothing (map seen tokens.now) (name_in part.0)
+        (map seen part.1.now)) }
 {
     let Some(after) = after_word(tokens, b"GO") else {
         return Some((None, tokens));
@@ -51,8 +54,10 @@ fn body_of<'a, 't, 's>(
     arena: &'a Bump<Global>,
     tokens: &'t [Token<'s>],
 ) -> Result<Option<(Regex<'a>, &'t [Token<'s>])>, NoMemory>
-    ensures { IfOk result (λ found. MatchOption found (NoReading Body EndsRegex (map seen tokens.now))
-        (λ part. Reading Body EndsRegex (map seen tokens.now) (meaning part.0) (map seen part.1.now))) }
+    ensures { IfOk result (λ found. MatchOption found
+        (NoReading Body EndsRegex (map seen tokens.now))
+        (λ part. Reading Body EndsRegex (map seen tokens.now) (meaning part.0)
+        (map seen part.1.now))) }
 {
     let Some((read, rest)) = regex(arena, tokens, 64)? else {
         return Ok(None);
@@ -65,8 +70,10 @@ fn opt_context<'a, 't, 's>(
     arena: &'a Bump<Global>,
     tokens: &'t [Token<'s>],
 ) -> Result<Option<(Option<Regex<'a>>, &'t [Token<'s>])>, NoMemory>
-    ensures { IfOk result (λ found. MatchOption found (NoReading (Opt Context) NoSlashEnds (map seen tokens.now))
-        (λ part. Reading (Opt Context) NoSlashEnds (map seen tokens.now) (regex_in part.0) (map seen part.1.now))) }
+    ensures { IfOk result (λ found. MatchOption found
+        (NoReading (Opt Context) NoSlashEnds (map seen tokens.now))
+        (λ part. Reading (Opt Context) NoSlashEnds (map seen tokens.now) (regex_in part.0)
+        (map seen part.1.now))) }
 {
     let Some(inner) = after_sign(tokens, b"/") else {
         return Ok(Some((None, tokens)));
@@ -93,7 +100,8 @@ pub(crate) fn rule_line<'a, 's>(
     arena: &'a Bump<Global>,
     tokens: &[Token<'s>],
 ) -> Result<Option<DeclaredRule<'a, 's>>, NoMemory>
-    ensures { IfOk result (λ found. MatchOption found ((rule : SaidRule) → RuleLine (map seen tokens.now) rule → ⊥)
+    ensures { IfOk result (λ found. MatchOption found
+        ((rule : SaidRule) → RuleLine (map seen tokens.now) rule → ⊥)
         (λ rule. RuleLine (map seen tokens.now) (said_rule rule))) }
 {
     let Some(rest) = after_word(tokens, b"RULE") else {
@@ -155,9 +163,5 @@ fn skipped<'s>(tokens: &[Token<'s>]) -> Option<Option<&'s [u8]>>
 {
     let rest = after_word(tokens, b"SKIP")?;
     let (next, rest) = opt_go(rest)?;
-    if rest.is_empty() {
-        Some(next)
-    } else {
-        None
-    }
+    if rest.is_empty() { Some(next) } else { None }
 }

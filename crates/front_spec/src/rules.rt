@@ -6,7 +6,6 @@ ghost use Rattle.front_spec.specs.RexRules.{active_in, add_rule, add_token, numb
 ghost use Rattle.front_spec.specs.Seen.{declared_by, names_in, regex_in, said_rule, saying};
 ghost use Rattle.front_spec.specs.Steps.{AddsActive};
 
-
 use crate::declaration::{Declaration, Says};
 use crate::rule::DeclaredRule;
 use bumpalo::Bump;
@@ -15,10 +14,7 @@ use rex_model::{Regex, ScanRule};
 use std::alloc::Global;
 
 /// The names of the tokens that the lines declare, in the order in which they are first met.
-pub(crate) fn token_names(
-    alloc: Global,
-    list: &[Declaration<'_, '_>],
-) -> Result<Names, NoMemory>
+pub(crate) fn token_names(alloc: Global, list: &[Declaration<'_, '_>]) -> Result<Names, NoMemory>
     requires { length list.now + 2 < 2 ^ 32 }
     ensures { IfOk result (λ names.
         names ≡ met [] (tokens_in (rules_in (map declared_by list.now)))) }
@@ -104,7 +100,8 @@ fn scan_rule<'a>(
     rule: &DeclaredRule<'a, '_>,
 ) -> Result<ScanRule<'a>, NoMemory>
     requires { 0 < length states.now }
-    ensures { IfOk result (λ made. rule_of made ≡ rule_by states.now tokens.now (said_rule rule.now)) }
+    ensures { IfOk result (λ made.
+        rule_of made ≡ rule_by states.now tokens.now (said_rule rule.now)) }
 {
     let active = active_states(alloc, states, &rule.states)?;
     let body: &Regex<'a> = arena.try_alloc(rule.body)?;

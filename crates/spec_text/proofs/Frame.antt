@@ -2,15 +2,14 @@
 use Rattle.std.proofs.Common.{◌≡◌, ℕ, zero, suc, ◌+◌, ◌<◌, ◌≤◌, ◌⊎◌, inl, inr, List, [], ◌∷◌, ◌++◌, length, take, refl, sym, ap, ◌∙◌, Some, arith}
 use Rattle.std.specs.List.{slice_get}
 use Rattle.ck_base.specs.declared.fault.Kind.{Kind}
-use Rattle.ck_base.specs.declared.fault.Kind.TheVariants.{Section, Syntax, Limit, Twice, Unknown, Typing}
 use Rattle.ck_base.specs.declared.fault.SpecFault.{SpecFault}
 use Rattle.ck_base.specs.declared.fault.SpecFault.TheVariants.{Bad, NoMemory}
 use Rattle.spec_text.specs.Lexemes.{Lexeme}
 use Rattle.spec_text.specs.Lines.{Line, said_by}
-use Rattle.spec_text.specs.FirstFault.{Least, rank, Shapeless, NoneEarlier, of_shape, Accepts, ExactlyOne}
+use Rattle.spec_text.specs.FirstFault.{Least, Shapeless, of_shape, ExactlyOne}
 use Rattle.spec_text.specs.Declares.{Declared, Notation, kind_of, HasAt, Says, DeclareAll, no_lines, one_line, HasNoShape, HasFault, judged, IsFirstFault, IsFaultOfLine, LinesGrow, Grow}
 use Rattle.spec_text.proofs.Lists.{order, take_step, take_get, get_fits}
-use Rattle.spec_text.proofs.OneFault.{exactly_one}
+use Rattle.spec_text.proofs.OneFault.{IsDetermined, exactly_one}
 
 -- a pass over the declarations
 module _ {S : Type 0} (ds : List (Declared S)) (F : ℕ → S → Type 0) where
@@ -99,51 +98,6 @@ module _ {S : Type 0} (n : Notation S) where
               let x = is.0 in let y = has.number_is ∙ ap (λ l. l.number) one in omega (arith, x, y)
   first_shapeless lines i line ds NoMemory grow at so is = tt
 
-  -- no line has a fault of the kind
-  abbrev pub HasNone : List (Declared S) → Kind → Type 0
-  HasNone ds kind = (line : ℕ) → HasFault n ds kind line → ⊥
-
-  -- kinds that are looked for earlier
-  pub before_twice : (lines : List Line) (ds : List (Declared S)) → NoneEarlier (judged n lines) ds Twice
-  before_twice lines ds other line some less has = omega (arith, some, less)
-
-  pub before_unknown : (lines : List Line) (ds : List (Declared S)) → HasNone ds Twice → NoneEarlier (judged n lines) ds Unknown
-  before_unknown lines ds twice Section line some less has = omega (arith, some)
-  before_unknown lines ds twice Syntax line some less has = omega (arith, some)
-  before_unknown lines ds twice Twice line some less has = twice line has
-  before_unknown lines ds twice Unknown line some less has = omega (arith, less)
-  before_unknown lines ds twice Typing line some less has = omega (arith, less)
-  before_unknown lines ds twice Limit line some less has = omega (arith, less)
-
-  pub before_typing : (lines : List Line) (ds : List (Declared S)) → HasNone ds Twice → HasNone ds Unknown → NoneEarlier (judged n lines) ds Typing
-  before_typing lines ds twice unknown Section line some less has = omega (arith, some)
-  before_typing lines ds twice unknown Syntax line some less has = omega (arith, some)
-  before_typing lines ds twice unknown Twice line some less has = twice line has
-  before_typing lines ds twice unknown Unknown line some less has = unknown line has
-  before_typing lines ds twice unknown Typing line some less has = omega (arith, less)
-  before_typing lines ds twice unknown Limit line some less has = omega (arith, less)
-
-  pub before_limit : (lines : List Line) (ds : List (Declared S)) → HasNone ds Twice → HasNone ds Unknown → HasNone ds Typing
-      → NoneEarlier (judged n lines) ds Limit
-  before_limit lines ds twice unknown typing Section line some less has = omega (arith, some)
-  before_limit lines ds twice unknown typing Syntax line some less has = omega (arith, some)
-  before_limit lines ds twice unknown typing Twice line some less has = twice line has
-  before_limit lines ds twice unknown typing Unknown line some less has = unknown line has
-  before_limit lines ds twice unknown typing Typing line some less has = typing line has
-  before_limit lines ds twice unknown typing Limit line some less has = omega (arith, less)
-
-  pub accepted : (lines : List Line) (ds : List (Declared S)) → DeclareAll n lines ds → HasNone ds Twice → HasNone ds Unknown → HasNone ds Typing
-      → HasNone ds Limit → Accepts (judged n lines) ds
-  accepted lines ds all twice unknown typing limit = record { declares = all; no_fault = λ kind line some has. by kind line some has }
-    where
-      by : (kind : Kind) (line : ℕ) → 0 < rank kind → HasFault n ds kind line → ⊥
-      by Section line some has = omega (arith, some)
-      by Syntax line some has = omega (arith, some)
-      by Twice line some has = twice line has
-      by Unknown line some has = unknown line has
-      by Typing line some has = typing line has
-      by Limit line some has = limit line has
-
   -- where a line has one shape at most, exactly one of fault and declarations is there
   module _ (one_shape : (tokens : List Lexeme) (a b : S) → n.Shape tokens a → n.Shape tokens b → a ≡ b) where
     one_said : (line : Line) (d e : Declared S) → Says n line d → Says n line e → d ≡ e
@@ -188,11 +142,16 @@ module _ {S : Type 0} (n : Notation S) where
         by (inr (inl less)) = let more = grow g.place f.place g.line f.line g.is f.is less in let x = f.number_is in let y = g.number_is in absurd (omega (arith, more, x, y))
         by (inr (inr same)) = let a = rw same at f.is in let b = sym a ∙ g.is in cc
 
-    pub one_of_both : (lines : List Line) → LinesGrow lines → ExactlyOne (judged n lines)
-    one_of_both lines grow = exactly_one (judged n lines) (record {
+    -- so it is whatever faults the declarations have
+    pub determined : (lines : List Line) (Has : List (Declared S) → Kind → ℕ → Type 0) → LinesGrow lines
+        → IsDetermined (record { NoShape = HasNoShape n lines; Declares = DeclareAll n lines; Has = Has })
+    determined lines Has grow = record {
       one_kind = λ number kind other f g.
           f.is_kind ∙ ap (λ l. kind_of l.bad) (same_line lines grow number kind other f g) ∙ sym g.is_kind;
       one = one_declared lines;
       apart = λ ds number kind all f. let d = said_of lines ds f.place f.line all f.is in f.none d.0 d.1;
       whole = whole lines;
-    })
+    }
+
+    pub one_of_both : (lines : List Line) → LinesGrow lines → ExactlyOne (judged n lines)
+    one_of_both lines grow = exactly_one (judged n lines) (determined lines (HasFault n) grow)

@@ -24,5 +24,7 @@ pub mod Names
 pub mod OneFault
 pub mod Frame
 pub mod Numbers
+pub mod Others
 pub mod Parting
 mod Examples
+pub mod KindOrder

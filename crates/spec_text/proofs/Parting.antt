@@ -70,7 +70,7 @@ contains_at xs i x at = (i, get_fits xs i x at, by xs i at)
     by (y ∷ xs) zero at = cc
     by (y ∷ xs) (suc i) at = by xs i at
 
-some_at : {X : Type 0} (xs : List X) (i : ℕ) → i < length xs → (x : X) × (slice_get xs i ≡ Some x)
+pub some_at : {X : Type 0} (xs : List X) (i : ℕ) → i < length xs → (x : X) × (slice_get xs i ≡ Some x)
 some_at [] i less = absurd (omega (arith, less))
 some_at (x ∷ xs) zero less = (x, refl)
 some_at (x ∷ xs) (suc i) less = some_at xs i (omega (arith, less))

@@ -1,6 +1,6 @@
 -- The lines of a section by its notation: what each declares, which one has no shape, and which one has a
 -- fault among the others.
-use Rattle.std.specs.Prelude.{◌≡◌, ℕ, ◌<◌, List, [], ◌∷◌, Option, Some, None, slice_get}
+use Rattle.std.specs.Prelude.{◌≡◌, ◌⊎◌, ℕ, ◌<◌, List, [], ◌∷◌, Option, Some, None, slice_get}
 use Rattle.ck_base.specs.declared.fault.Kind.{Kind}
 use Rattle.ck_base.specs.declared.fault.Kind.TheVariants.{Syntax}
 use Rattle.ck_base.specs.declared.fault.SpecFault.{SpecFault}
@@ -62,6 +62,14 @@ module _ {S : Type 0} (n : Notation S) where
   -- the lines, judged by the notation
   abbrev pub judged : List Line → Judged (List (Declared S))
   judged lines = record { NoShape = HasNoShape lines; Declares = DeclareAll lines; Has = HasFault }
+
+  -- the same, where the section may have a fault at the line of its head too
+  abbrev pub judged_at : ℕ → (List (Declared S) → Kind → Type 0) → List Line → Judged (List (Declared S))
+  judged_at head AtHead lines = record {
+    NoShape = HasNoShape lines;
+    Declares = DeclareAll lines;
+    Has = λ ds kind line. HasFault ds kind line ⊎ ((line ≡ head) × AtHead ds kind);
+  }
 
   -- the fault is the first one, or want of memory
   abbrev pub IsFirstFault : List Line → SpecFault → Type 0

@@ -1,5 +1,5 @@
 -- What the sections of a file are, and what `sections` gives of them.
-use Rattle.std.specs.Prelude.{◌≡◌, ℕ, ◌+◌, List, Contains}
+use Rattle.std.specs.Prelude.{◌≡◌, ℕ, ◌+◌, ◌<◌, List, Some, Contains, slice_get}
 use Rattle.ck_base.specs.declared.fault.Kind.TheVariants.{Section as section_kind}
 use Rattle.ck_base.specs.declared.fault.SpecFault.{SpecFault}
 use Rattle.ck_base.specs.declared.fault.SpecFault.TheVariants.{Bad, NoMemory}
@@ -39,6 +39,20 @@ pub record IsSectionOf (file : List ℕ) (section : Section) (found : SectionTex
   pub has : HasSection file section these
   pub head : found.head ≡ these.head
   pub lines : AreLinesOf file found.lines.now these.inside
+
+-- the line is the head of the first section of the file that isn't one of these
+pub record IsFirstOther (file : List ℕ) (these : List Section) (line : ℕ) : Type 0 where
+  pub lines : List Line
+  pub parts : List Part
+  pub sections : HasSections file lines parts
+  pub place : ℕ
+  pub part : Part
+  pub at : slice_get parts place ≡ Some part
+  pub other : Contains these part.section → ⊥
+  pub first : (i : ℕ) (p : Part) → i < place → slice_get parts i ≡ Some p → Contains these p.section
+  pub head : Line
+  pub head_at : slice_get lines part.head ≡ Some head
+  pub number : line ≡ head.number
 
 -- the first section fault of the file
 pub record FirstSectionFault (file : List ℕ) (line : ℕ) : Type 0 where

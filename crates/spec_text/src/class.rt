@@ -59,7 +59,8 @@ fn span_of(bytes: &[u8]) -> Option<(u8, u8, &[u8])>
 
 /// What follows the `-` with which the bytes begin.
 fn after_dash(bytes: &[u8]) -> Option<&[u8]>
-    ensures { MatchOption result ((rest : List ℕ) → bytes.now ≡ 45 ∷ rest → ⊥) (λ rest. bytes.now ≡ 45 ∷ rest.now) }
+    ensures { MatchOption result ((rest : List ℕ) → bytes.now ≡ 45 ∷ rest → ⊥)
+        (λ rest. bytes.now ≡ 45 ∷ rest.now) }
 {
     match bytes {
         [b'-', rest @ ..] => Some(rest),
@@ -84,7 +85,8 @@ fn char_of(bytes: &[u8]) -> Option<(u8, &[u8])>
 
 /// The byte that the escape means behind whose `\` the bytes stand, and what follows it.
 fn escaped_of(bytes: &[u8]) -> Option<(u8, &[u8])>
-    ensures { MatchOption result (HasNoChar (92 ∷ bytes.now)) (λ found. ClassChar (92 ∷ bytes.now) found.0 found.1.now) }
+    ensures { MatchOption result (HasNoChar (92 ∷ bytes.now))
+        (λ found. ClassChar (92 ∷ bytes.now) found.0 found.1.now) }
 {
     let (letter, after) = bytes.split_first()?;
     if is_class_name(*letter) {
@@ -99,7 +101,8 @@ fn escaped_of(bytes: &[u8]) -> Option<(u8, &[u8])>
 
 /// The byte of the two hexadecimal digits with which the bytes begin, and what follows them.
 fn coded_of(bytes: &[u8]) -> Option<(u8, &[u8])>
-    ensures { MatchOption result (HasNoChar (92 ∷ 120 ∷ bytes.now)) (λ found. ClassChar (92 ∷ 120 ∷ bytes.now) found.0 found.1.now) }
+    ensures { MatchOption result (HasNoChar (92 ∷ 120 ∷ bytes.now))
+        (λ found. ClassChar (92 ∷ 120 ∷ bytes.now) found.0 found.1.now) }
 {
     let (high, after) = bytes.split_first()?;
     let (low, rest) = after.split_first()?;

@@ -33,7 +33,7 @@ pub use laws::{
 };
 pub use line::SpecLine;
 pub use part::{after_sign, after_word, is_sign, is_word, name_of, names_of, number_of, text_of};
-pub use read::{rex_of, section_of, sections};
+pub use read::{first_other, rex_of, section_of, sections};
 pub use section::{Part, Section, SectionText, Sections};
 pub use token::{SpecSort, SpecToken};
 pub use view::{Token, tokens_in};

@@ -1,5 +1,6 @@
-ghost use Rattle.std.specs.Prelude.{◌≡◌, ◌≤◌, ◌<◌, ◌-◌, ◌↔◌, ℕ, List, Some, length, take, drop, slice_get, IsTrue, IfOk, IfErr, MatchOption};
-ghost use Rattle.spec_text.specs.Promise.{AreSectionsOf, HasSection, IsSectionFault, IsSectionOf};
+ghost use Rattle.std.specs.Prelude.{◌≡◌, ◌≤◌, ◌<◌, ◌-◌, ◌↔◌, ℕ, List, Some, length, take, drop, slice_get, Contains, IsTrue, IfOk, IfErr, MatchOption};
+ghost use Rattle.ck_base.specs.Found.{HasNo};
+ghost use Rattle.spec_text.specs.Promise.{AreSectionsOf, HasSection, IsFirstOther, IsSectionFault, IsSectionOf};
 ghost use Rattle.spec_text.specs.Sections.{SectionLines};
 ghost use Rattle.spec_text.specs.declared.line.SpecLine.{SpecLine as spec_line};
 ghost use Rattle.spec_text.specs.declared.section.Section.TheVariants.{Rex as rex};
@@ -36,6 +37,28 @@ pub fn section_of(s: &Sections, section: Section) -> Option<SectionText<'_>>
         }
     }
     None
+}
+
+/// The number of the line that is the head of the first section that isn't one of `these`; `None`
+/// where each section is one of them.
+pub fn first_other(s: &Sections, these: &[Section]) -> Option<u32>
+    requires { (file : List ℕ) × AreSectionsOf file s.now }
+    ensures { (file : List ℕ) → AreSectionsOf file s.now → MatchOption result
+        (HasNo (IsFirstOther file these.now)) (IsFirstOther file these.now) }
+{
+    for part in s.parts.as_slice() {
+        if !is_among(part.section, these) {
+            return Some(text_of(s.lines.as_slice(), *part).head);
+        }
+    }
+    None
+}
+
+/// Whether the section is one of these.
+fn is_among(section: Section, these: &[Section]) -> bool
+    ensures { IsTrue result ↔ Contains these.now section }
+{
+    these.contains(&section)
 }
 
 /// The section REX, which each specification has.

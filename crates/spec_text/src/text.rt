@@ -24,7 +24,8 @@ pub fn meant_in<'a>(arena: &'a Bump<Global>, inside: &[u8]) -> Result<&'a [u8], 
 
 /// The byte that the first character of a string means, and what follows it.
 fn first_meant(bytes: &[u8]) -> Option<(u8, &[u8])>
-    ensures { MatchOption result (MeansNothing bytes.now) (λ found. MeansFirst bytes.now found.0 found.1.now) }
+    ensures { MatchOption result (MeansNothing bytes.now)
+        (λ found. MeansFirst bytes.now found.0 found.1.now) }
 {
     let (first, after) = bytes.split_first()?;
     if *first == b'\\' {
@@ -36,7 +37,8 @@ fn first_meant(bytes: &[u8]) -> Option<(u8, &[u8])>
 
 /// The byte that the escape means behind whose `\` the bytes stand, and what follows it.
 fn escape_meant(bytes: &[u8]) -> Option<(u8, &[u8])>
-    ensures { MatchOption result (MeansNothing (92 ∷ bytes.now)) (λ found. MeansFirst (92 ∷ bytes.now) found.0 found.1.now) }
+    ensures { MatchOption result (MeansNothing (92 ∷ bytes.now))
+        (λ found. MeansFirst (92 ∷ bytes.now) found.0 found.1.now) }
 {
     let (letter, after) = bytes.split_first()?;
     if *letter == b'x' {
@@ -48,7 +50,8 @@ fn escape_meant(bytes: &[u8]) -> Option<(u8, &[u8])>
 
 /// The byte of the two hexadecimal digits with which the bytes begin, and what follows them.
 fn code_meant(bytes: &[u8]) -> Option<(u8, &[u8])>
-    ensures { MatchOption result (MeansNothing (92 ∷ 120 ∷ bytes.now)) (λ found. MeansFirst (92 ∷ 120 ∷ bytes.now) found.0 found.1.now) }
+    ensures { MatchOption result (MeansNothing (92 ∷ 120 ∷ bytes.now))
+        (λ found. MeansFirst (92 ∷ 120 ∷ bytes.now) found.0 found.1.now) }
 {
     let (high, after) = bytes.split_first()?;
     let (low, rest) = after.split_first()?;

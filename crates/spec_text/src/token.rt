@@ -99,7 +99,8 @@ fn is_line(bytes: &[u8]) -> bool
 
 /// The token with which the bytes begin: its sort, and how many bytes it has.
 fn first_token(bytes: &[u8]) -> Option<(SpecSort, usize)>
-    ensures { MatchOption result (HasNo2 (Begins bytes.now)) (λ found. IsFirst bytes.now found.0 found.1) }
+    ensures { MatchOption result (HasNo2 (Begins bytes.now))
+        (λ found. IsFirst bytes.now found.0 found.1) }
 {
     let (first, after) = bytes.split_first()?;
     if is_letter(*first) {

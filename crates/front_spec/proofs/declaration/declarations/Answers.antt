@@ -1,5 +1,5 @@
 -- Each turn looks at one line.
-use Rattle.std.proofs.Common.{refl, ap, map, ◌∙◌, length, ◌∷◌, [], rules, arith}
+use Rattle.std.proofs.Common.{refl, ap, map, ◌∙◌, ◌∷◌, [], rules, arith}
 use Rattle.std.proofs.lemmas.List.{map-append}
 use Rattle.spec_text.specs.Declares.{no_lines}
 use Rattle.spec_text.proofs.Frame.{declare_more, first_shapeless}
@@ -16,27 +16,28 @@ loop-line-init c = rw c.new-list.ensures.items (λ are is. no_lines, refl)
 pub declared_in-requires : goal.declared_in-requires
 declared_in-requires c =
     let here = line_at _ _ c.requires.0 c.loop-line.line-index _ c.requires.1
-        (rw c.line-item.is (get_at c.args.lines.now c.loop-line.line-index _ c.loop-line-test.true)) in
+    (rw c.line-item.is (get_at c.args.lines.now c.loop-line.line-index _ c.loop-line-test.true)) in
     (here.there, here.is)
 
 pub returns-in_err-declared_in-clause-fault : goal.returns-in_err-declared_in-clause-fault
 returns-in_err-declared_in-clause-fault c = passed_on _ _ _ c.from_residual.ensures.1 (λ are is grow.
     let here = line_at _ _ are c.loop-line.line-index _ is
-        (rw c.line-item.is (get_at c.args.lines.now c.loop-line.line-index _ c.loop-line-test.true)) in
+    (rw c.line-item.is (get_at c.args.lines.now c.loop-line.line-index _ c.loop-line-test.true)) in
     first_shapeless rex are c.loop-line.line-index here.there _ _ grow here.at (c.loop-line.invariant.0 are is)
-        (c.in_err-declared_in.ensures.fault here.there here.is))
+    (c.in_err-declared_in.ensures.fault here.there here.is))
 
 pub loop-line-preserved : goal.loop-line-preserved
 loop-line-preserved c = (
-    λ are is.
-        let here = line_at _ _ are c.loop-line.line-index _ is
-            (rw c.line-item.is (get_at c.args.lines.now c.loop-line.line-index _ c.loop-line-test.true)) in
-        declare_more rex are c.loop-line.line-index here.there _ _ (declared_by c.in_ok-declared_in.field-0) here.at (c.loop-line.invariant.0 are is)
-            (c.in_ok-declared_in.ensures.says here.there here.is)
-            (ap (λ l. map declared_by l) c.in_ok-push.ensures.items ∙ map-append declared_by c.loop-line.list.items (c.in_ok-declared_in.field-0 ∷ [])),
-    (search rules))
+  λ are is.
+      let here = line_at _ _ are c.loop-line.line-index _ is
+      (rw c.line-item.is (get_at c.args.lines.now c.loop-line.line-index _ c.loop-line-test.true)) in
+      declare_more rex are c.loop-line.line-index here.there _ _ (declared_by c.in_ok-declared_in.field-0) here.at (c.loop-line.invariant.0 are is)
+      (c.in_ok-declared_in.ensures.says here.there here.is)
+      (ap (λ l. map declared_by l) c.in_ok-push.ensures.items ∙ map-append declared_by c.loop-line.list.items (c.in_ok-declared_in.field-0 ∷ [])),
+  (search rules),
+)
 
 pub returns-clause-declared : goal.returns-clause-declared
 returns-clause-declared c = λ are is.
     rw (take_all are c.loop-line.line-index
-        (omega (arith, c.loop-line-test.false, c.loop-line.auto.line-index-end) ∙ as_many _ _ are is)) at (c.loop-line.invariant.0 are is)
+    (omega (arith, c.loop-line-test.false, c.loop-line.auto.line-index-end) ∙ as_many _ _ are is)) at (c.loop-line.invariant.0 are is)

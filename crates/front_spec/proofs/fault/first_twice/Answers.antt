@@ -1,7 +1,7 @@
 -- Each turn looks at one line.
 use Rattle.std.proofs.Common.{refl}
 use Rattle.front_spec.specs.Seen.{declared_by}
-use Rattle.front_spec.proofs.Passes.{declared_at, step_twice, found_twice, nothing_twice, nothing_twice_yet, at_end}
+use Rattle.front_spec.proofs.Passes.{declared_at, step_twice, found_twice, nothing_twice, at_end}
 use Rattle.front_spec.proofs.fault.first_twice.Goals as goal
 
 pub returns-then-branch-clause-fault : goal.returns-then-branch-clause-fault

@@ -8,6 +8,7 @@ returns-then-lists_missing c = ((λ is. active_missing _ _ (c.lists_missing.ensu
 
 pub returns : goal.returns
 returns c = (
-    (λ is. next_missing _ _ (c.is_next_missing.ensures.0 is)),
-    (λ missing. c.is_next_missing.ensures.1
-        (either_missing _ _ (λ lists. let is = c.lists_missing.ensures.1 lists in let e = c.if-lists_missing.false in cc) missing)))
+  (λ is. next_missing _ _ (c.is_next_missing.ensures.0 is)),
+  (λ missing. c.is_next_missing.ensures.1
+      (either_missing _ _ (λ lists. let is = c.lists_missing.ensures.1 lists in let e = c.if-lists_missing.false in cc) missing)),
+)

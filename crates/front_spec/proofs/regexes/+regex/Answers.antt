@@ -1,6 +1,6 @@
 -- The parts of an expression.
-use Rattle.std.proofs.Common.{refl, arith, [], rules}
-use Rattle.front_spec.proofs.RegexParts.{leaf_atom, no_atom_zero, no_open, no_inner, no_close, group_atom, some_depth, no_piece, piece_first, piece_more, piece_end, piece_deep, piece_deeper, no_row, row_first, row_more, row_end, no_rows, rows_first, rows_more, rows_none, rows_end, rows_deep, shorter}
+use Rattle.std.proofs.Common.{arith, [], rules}
+use Rattle.front_spec.proofs.RegexParts.{leaf_atom, no_atom_zero, no_open, no_inner, no_close, group_atom, some_depth, no_piece, piece_first, piece_more, piece_end, piece_deep, piece_deeper, no_row, row_first, row_more, row_end, no_rows, rows_first, rows_more, rows_none, shorter}
 use Rattle.front_spec.proofs.regexes.+regex.Goals as goal
 
 pub atom-returns-in-Some-clause-reading : goal.atom-returns-in-Some-clause-reading
@@ -20,7 +20,7 @@ atom-returns-in_default-2-clause-reading t c =
 pub atom-returns-in_default-after_sign-2-clause-reading : goal.atom-returns-in_default-after_sign-2-clause-reading
 atom-returns-in_default-after_sign-2-clause-reading t c =
     rw (some_depth _ c.if-depth-eq0.false) (no_close _ _ (rw c.in_default.is at c.in_ok-body.ensures.reading) _ _ _ c.in-Some-after_sign.ensures
-        (rw c.in-Some-2.is at c.in_ok-read.ensures.reading) c.in_default-after_sign-2.ensures)
+    (rw c.in-Some-2.is at c.in_ok-read.ensures.reading) c.in_default-after_sign-2.ensures)
 
 pub atom-returns-clause-reading : goal.atom-returns-clause-reading
 atom-returns-clause-reading t c =
@@ -84,6 +84,8 @@ regex-loop-behind-preserved t c =
     let fits = rw c.in-Some-2.is at c.in_ok-next.ensures.fits in
     let before = c.loop-behind.invariant.2 in
     let less = shorter _ _ _ c.in-Some-after_sign.ensures in
-    let most = c.max-deepest.ensures in
-    (rows_more _ _ _ _ _ _ _ _ _ _ c.loop-behind.invariant.0 c.in-Some-after_sign.ensures (rw c.in-Some-2.is at c.in_ok-next.ensures.reading) c.in_ok-push-2.ensures.items _ most, search rules,
-        omega (arith, fits.1, before, less))
+    let most = c.max-deepest.ensures in (
+      rows_more _ _ _ _ _ _ _ _ _ _ c.loop-behind.invariant.0 c.in-Some-after_sign.ensures (rw c.in-Some-2.is at c.in_ok-next.ensures.reading) c.in_ok-push-2.ensures.items _ most,
+      search rules,
+      omega (arith, fits.1, before, less),
+    )

@@ -1,6 +1,5 @@
 -- Each pair of parentheses takes one from the depth.
-use Rattle.std.proofs.Common.{◌+◌, ◌*◌, ◌≤◌, ◌<◌, length, map, codes}
-use Rattle.spec_text.specs.Lexemes.{sign}
+use Rattle.std.proofs.Common.{◌+◌, ◌*◌, ◌≤◌, ◌<◌, length, map}
 use Rattle.spec_text.specs.Seen.{seen}
 use Rattle.front_spec.specs.Seen.{written_of}
 use Rattle.front_spec.proofs.RegexParts.{PieceSoFar, RowSoFar, RowsSoFar}

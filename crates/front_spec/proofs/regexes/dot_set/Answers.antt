@@ -1,7 +1,6 @@
 -- Byte for byte.
 use Rattle.std.proofs.Common.{refl}
 use Rattle.front_spec.proofs.Dot.{dot_same}
-use Rattle.front_spec.proofs.RegexParts.{no_rows}
 use Rattle.front_spec.proofs.regexes.dot_set.Goals as goal
 
 pub returns : goal.returns

@@ -1,5 +1,4 @@
 -- A string, a class or `.`.
-use Rattle.std.proofs.Common.{refl}
 use Rattle.rex_model.proofs.Meanings.{meaning-Bytes, meaning-Class}
 use Rattle.rex_model.specs.Meaning.{set_of}
 use Rattle.front_spec.specs.Regexes.{a_string, a_class, a_dot}

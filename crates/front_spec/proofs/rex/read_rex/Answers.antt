@@ -15,8 +15,8 @@ pub returns-in_err-list-clause-fault : goal.returns-in_err-list-clause-fault
 returns-in_err-list-clause-fault c =
     let section = c.rex_of-section.ensures c.args.spec.now c.requires.read in
     passed_on _ _ _ c.from_residual.ensures.1
-        (rex_fault _ section.these _ section.has (c.in_err-list.ensures.fault section.these.inside section.lines
-            (section_grows c.args.spec.now Rex section.these section.has)))
+    (rex_fault _ section.these _ section.has (c.in_err-list.ensures.fault section.these.inside section.lines
+    (section_grows c.args.spec.now Rex section.these section.has)))
 
 pub states_of-requires-clause-few : goal.states_of-requires-clause-few
 states_of-requires-clause-few c =
@@ -28,15 +28,15 @@ pub states_of-requires-clause-grow : goal.states_of-requires-clause-grow
 states_of-requires-clause-grow c =
     let section = c.rex_of-section.ensures c.args.spec.now c.requires.read in
     rw c.as_slice.ensures.value
-        (list_grows c.args.spec.now _ section c.in_ok-list.list.items c.requires.size c.in_ok-list.ensures.declared c.in_ok-list.ensures.few)
+    (list_grows c.args.spec.now _ section c.in_ok-list.list.items c.requires.size c.in_ok-list.ensures.declared c.in_ok-list.ensures.few)
 
 pub returns-in_err-states-clause-fault : goal.returns-in_err-states-clause-fault
 returns-in_err-states-clause-fault c =
     let section = c.rex_of-section.ensures c.args.spec.now c.requires.read in
     passed_on _ _ _ c.from_residual-in_err-states.ensures.1
-        (rex_fault _ section.these _ section.has (c.in_err-states.ensures.fault section.these.inside
-            (all_declared c.args.spec.now _ section c.in_ok-list.list.items c.requires.size c.in_ok-list.ensures.declared
-                c.in_ok-list.ensures.few _ c.as_slice.ensures.value)))
+    (rex_fault _ section.these _ section.has (c.in_err-states.ensures.fault section.these.inside
+    (all_declared c.args.spec.now _ section c.in_ok-list.list.items c.requires.size c.in_ok-list.ensures.declared
+    c.in_ok-list.ensures.few _ c.as_slice.ensures.value)))
 
 pub token_names-requires : goal.token_names-requires
 token_names-requires c =
@@ -48,34 +48,48 @@ pub returns-clause-rules : goal.returns-clause-rules
 returns-clause-rules c =
     let section = c.rex_of-section.ensures c.args.spec.now c.requires.read in
     let m = made c.args.spec.now _ section c.in_ok-list.list.items c.requires.size c.in_ok-list.ensures.declared c.in_ok-list.ensures.few
-        _ _ _ c.as_slice.ensures.value c.as_slice-2.ensures.value c.as_slice-3.ensures.value _ _ _ c.in_ok-states.ensures.states
-        c.in_ok-states.ensures.accepted c.in_ok-tokens.ensures c.in_ok-rules.ensures in
+    _ _ _ c.as_slice.ensures.value c.as_slice-2.ensures.value c.as_slice-3.ensures.value _ _ _ c.in_ok-states.ensures.states
+    c.in_ok-states.ensures.accepted c.in_ok-tokens.ensures c.in_ok-rules.ensures in
     record { lines = m.these; section = m.section; declared = m.declared; accepted = m.accepted; are = m.are }
 
 pub returns-clause-positions : goal.returns-clause-positions
 returns-clause-positions c =
     let section = c.rex_of-section.ensures c.args.spec.now c.requires.read in
     (made c.args.spec.now _ section c.in_ok-list.list.items c.requires.size c.in_ok-list.ensures.declared c.in_ok-list.ensures.few
-        _ _ _ c.as_slice.ensures.value c.as_slice-2.ensures.value c.as_slice-3.ensures.value _ _ _ c.in_ok-states.ensures.states
-        c.in_ok-states.ensures.accepted c.in_ok-tokens.ensures c.in_ok-rules.ensures).positions
+    _ _ _ c.as_slice.ensures.value c.as_slice-2.ensures.value c.as_slice-3.ensures.value _ _ _ c.in_ok-states.ensures.states
+    c.in_ok-states.ensures.accepted c.in_ok-tokens.ensures c.in_ok-rules.ensures).positions
 
 pub returns-clause-next : goal.returns-clause-next
 returns-clause-next c =
     let section = c.rex_of-section.ensures c.args.spec.now c.requires.read in
     (made c.args.spec.now _ section c.in_ok-list.list.items c.requires.size c.in_ok-list.ensures.declared c.in_ok-list.ensures.few
-        _ _ _ c.as_slice.ensures.value c.as_slice-2.ensures.value c.as_slice-3.ensures.value _ _ _ c.in_ok-states.ensures.states
-        c.in_ok-states.ensures.accepted c.in_ok-tokens.ensures c.in_ok-rules.ensures).next
+    _ _ _ c.as_slice.ensures.value c.as_slice-2.ensures.value c.as_slice-3.ensures.value _ _ _ c.in_ok-states.ensures.states
+    c.in_ok-states.ensures.accepted c.in_ok-tokens.ensures c.in_ok-rules.ensures).next
+
+pub returns-clause-active : goal.returns-clause-active
+returns-clause-active c =
+    let section = c.rex_of-section.ensures c.args.spec.now c.requires.read in
+    (made c.args.spec.now _ section c.in_ok-list.list.items c.requires.size c.in_ok-list.ensures.declared c.in_ok-list.ensures.few
+    _ _ _ c.as_slice.ensures.value c.as_slice-2.ensures.value c.as_slice-3.ensures.value _ _ _ c.in_ok-states.ensures.states
+    c.in_ok-states.ensures.accepted c.in_ok-tokens.ensures c.in_ok-rules.ensures).active
+
+pub returns-clause-tokens : goal.returns-clause-tokens
+returns-clause-tokens c =
+    let section = c.rex_of-section.ensures c.args.spec.now c.requires.read in
+    (made c.args.spec.now _ section c.in_ok-list.list.items c.requires.size c.in_ok-list.ensures.declared c.in_ok-list.ensures.few
+    _ _ _ c.as_slice.ensures.value c.as_slice-2.ensures.value c.as_slice-3.ensures.value _ _ _ c.in_ok-states.ensures.states
+    c.in_ok-states.ensures.accepted c.in_ok-tokens.ensures c.in_ok-rules.ensures).tokens
 
 pub returns-clause-states : goal.returns-clause-states
 returns-clause-states c =
     let section = c.rex_of-section.ensures c.args.spec.now c.requires.read in
     (made c.args.spec.now _ section c.in_ok-list.list.items c.requires.size c.in_ok-list.ensures.declared c.in_ok-list.ensures.few
-        _ _ _ c.as_slice.ensures.value c.as_slice-2.ensures.value c.as_slice-3.ensures.value _ _ _ c.in_ok-states.ensures.states
-        c.in_ok-states.ensures.accepted c.in_ok-tokens.ensures c.in_ok-rules.ensures).states
+    _ _ _ c.as_slice.ensures.value c.as_slice-2.ensures.value c.as_slice-3.ensures.value _ _ _ c.in_ok-states.ensures.states
+    c.in_ok-states.ensures.accepted c.in_ok-tokens.ensures c.in_ok-rules.ensures).states
 
 pub returns-clause-few : goal.returns-clause-few
 returns-clause-few c =
     let section = c.rex_of-section.ensures c.args.spec.now c.requires.read in
     (made c.args.spec.now _ section c.in_ok-list.list.items c.requires.size c.in_ok-list.ensures.declared c.in_ok-list.ensures.few
-        _ _ _ c.as_slice.ensures.value c.as_slice-2.ensures.value c.as_slice-3.ensures.value _ _ _ c.in_ok-states.ensures.states
-        c.in_ok-states.ensures.accepted c.in_ok-tokens.ensures c.in_ok-rules.ensures).few
+    _ _ _ c.as_slice.ensures.value c.as_slice-2.ensures.value c.as_slice-3.ensures.value _ _ _ c.in_ok-states.ensures.states
+    c.in_ok-states.ensures.accepted c.in_ok-tokens.ensures c.in_ok-rules.ensures).few

@@ -1,5 +1,4 @@
 -- One kind after the other.
-use Rattle.std.proofs.Common.{refl}
 use Rattle.front_spec.proofs.Passes.{is_twice, is_unknown, is_limit, is_accepted}
 use Rattle.front_spec.proofs.rex.states_of.Goals as goal
 

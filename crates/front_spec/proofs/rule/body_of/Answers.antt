@@ -1,6 +1,6 @@
 -- Its meaning alone.
 use Rattle.front_spec.specs.Regexes.{IsRegex, EndsRegex, meaning_of}
-use Rattle.front_spec.proofs.RuleReadings.{seen_reading, seen_none}
+use Rattle.front_spec.proofs.RuleReadings.{seen_reading}
 use Rattle.front_spec.proofs.rule.body_of.Goals as goal
 
 pub returns : goal.returns
