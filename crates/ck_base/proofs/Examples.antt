@@ -1,14 +1,14 @@
 -- The definitions, tried on known cases.
-use Rattle.std.proofs.Common.{◌≡◌, ℕ, zero, suc, ◌^◌, inl, inr, refl, sym, ap, subst, lit<, arith, List, [], ◌∷◌, ◌++◌, length, Contains, Vec, Global, slice_index, bit_or, ◌/◌, ◌%◌}
+use Rattle.std.proofs.Common.{◌≡◌, ℕ, zero, suc, ◌^◌, inl, inr, refl, sym, ap, subst, lit<, arith, List, [], ◌∷◌, length, Some, None, Vec, Global, slice_index, bit_or, ◌/◌, ◌%◌}
 use Rattle.std.specs.Prelude.{codes, IsBitSet}
 use Rattle.std.specs.Fmt.{digits}
 use Rattle.ck_base.specs.declared.fault.Kind.TheVariants.{Syntax, Typing}
-use Rattle.ck_base.specs.declared.refusal.TheConstants.{USAGE_LINE, READ_LINE, WRITE_LINE, MEMORY_LINE}
-use Rattle.ck_base.specs.declared.refusal.Refusal.TheVariants.{Usage, BadSpec, SourceTooLong, BadToken}
+use Rattle.ck_base.specs.declared.lines.TheConstants.{USAGE_LINE, READ_LINE, WRITE_LINE, MEMORY_LINE}
+use Rattle.ck_base.specs.declared.refusal.Refusal.TheVariants.{Usage, BadSpec, Unproductive, LalrConflict, LlConflict, SourceTooLong, BadToken, SpentBudget, UsedUp}
 use Rattle.ck_base.specs.declared.status.Status.TheVariants as status
 use Rattle.ck_base.specs.BitSet.{BitSet, Has, IsEmpty, Adds, Grew}
 use Rattle.ck_base.specs.Lines.{line_of, status_of, code_of}
-use Rattle.ck_base.specs.Numbered.{texts, AreNumbered, Interns, known, added}
+use Rattle.ck_base.specs.Numbered.{texts, AreNumbered, number_of, met}
 use Rattle.ck_base.specs.Words.{IsFit, AreJoined, Differ}
 
 -- the kind stands after the line
@@ -26,6 +26,26 @@ token_of_line_1 : line_of (BadToken 1 4) ≡ codes "source:1:4: bad token"
 unfolding digits
 token_of_line_1 = refl
 
+-- a rule may stand against a shift or against another rule, which is printed last
+conflict_with_shift : line_of (LalrConflict (codes "ELSE") (codes "if") None) ≡ codes "spec: conflict on ELSE: reduce if, shift"
+conflict_with_shift = refl
+
+conflict_with_rule : line_of (LalrConflict (codes "X") (codes "a") (Some (codes "b"))) ≡ codes "spec: conflict on X: reduce a, reduce b"
+conflict_with_rule = refl
+
+-- the terminal is printed before the nonterminal
+conflict_of_choice : line_of (LlConflict (codes "Stmt") (codes "a") (codes "b") (codes "ID")) ≡ codes "spec: conflict on ID in Stmt: a, b"
+conflict_of_choice = refl
+
+-- what is needed is printed before what there is
+three_of_two : line_of (UsedUp (codes "R") 3 2) ≡ codes "code: class R needs 3 registers and has 2"
+unfolding digits
+three_of_two = refl
+
+-- refusals with equal names are equal, however the names are stored
+same_names : (n m : List ℕ) → n ≡ m → Unproductive n ≡ Unproductive m
+same_names n m same = ap Unproductive same
+
 -- the lines that are constants
 usage_line : USAGE_LINE.now ≡ line_of Usage
 usage_line = refl
@@ -42,6 +62,10 @@ memory_line = refl
 -- a source that is too long is the source's fault
 too_long_is_source : status_of SourceTooLong ≡ status.Source
 too_long_is_source = refl
+
+-- a spent budget is a fault of rewriting, too few registers one of the code
+rewriting_and_code : (status_of (SpentBudget 7) ≡ status.Rewrite) × (status_of (UsedUp (codes "R") 3 2) ≡ status.Code)
+rewriting_and_code = (refl, refl)
 
 -- the program ends with 2 where the specification is refused
 spec_ends_with_2 : code_of (status_of (BadSpec 2 Syntax)) ≡ 2
@@ -144,24 +168,21 @@ bytes_in_order v w = refl
 abbrev ab : List (List ℕ)
 ab = codes "a" ∷ codes "b" ∷ []
 
--- an old name keeps its number, and the names stay
-old_name : Interns ab ab (codes "b") 1
-old_name = known refl refl
+-- a number is the place from 0
+number_of_b : number_of ab (codes "b") ≡ Some 1
+number_of_b = refl
 
 -- the empty byte string is neither of the two
-empty_is_absent : Contains ab [] → ⊥
-empty_is_absent (zero, within, is) = cc
-empty_is_absent (suc zero, within, is) = cc
-empty_is_absent (suc (suc k), within, is) = omega arith
+no_number : number_of ab [] ≡ None
+no_number = refl
 
--- a new name goes to the end, and has the next number
-new_name : Interns ab (codes "a" ∷ codes "b" ∷ [] ∷ []) [] 2
-new_name = added empty_is_absent refl refl
+-- an old name isn't added a second time, wherever it stands
+not_twice : met ab (codes "a" ∷ []) ≡ ab
+not_twice = refl
 
--- an old name isn't added a second time
-not_twice : Interns ab (ab ++ codes "b" ∷ []) (codes "b") 2 → ⊥
-not_twice (known same there) = omega (arith, ap length same)
-not_twice (added absent same next) = absent (1, lit< tt, refl)
+-- new names go to the end, in the order in which they are first met
+in_order : met ab (codes "d" ∷ codes "a" ∷ codes "c" ∷ codes "d" ∷ []) ≡ codes "a" ∷ codes "b" ∷ codes "d" ∷ codes "c" ∷ []
+in_order = refl
 
 -- no list of names has one of them twice
 no_doubles : AreNumbered (codes "a" ∷ codes "a" ∷ []) → ⊥

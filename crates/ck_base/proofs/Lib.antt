@@ -1,8 +1,9 @@
 pub mod Counting
 mod Examples
 mod NameAdded
-mod NameFound
-pub mod OrJoinsBits
+pub mod NameFound
+pub mod NamesMet
+mod OrJoinsBits
 pub mod Representing
 pub mod SameWords
 mod WordsActAsSets

@@ -8,7 +8,7 @@ use Rattle.std.proofs.lemmas.List.Quantifiers.{position-Some}
 use Rattle.std.proofs.lemmas.List.Sums.{position_or_len_is}
 use Rattle.std.proofs.lemmas.Option.{none-some, slice_get-get_or, slice_get_within, get_or_from_slice_get}
 use Rattle.std.proofs.lemmas.Slice.Eq.{bytes_eq-Decides}
-use Rattle.ck_base.specs.Numbered.{texts, AreNumbered}
+use Rattle.ck_base.specs.Numbered.{texts, AreApart, number_of}
 
 -- the first vector that passes stands where its bytes do
 pub position_or_len-texts : (test : List ℕ → Bool) (vectors : List (Vec ℕ Global))
@@ -39,34 +39,37 @@ module _ (names : List (List ℕ)) (name : List ℕ) where
       there_where_equal n first.0 first.1
 
   -- and it is found there, since no earlier place has it
-  pub no_earlier : AreNumbered names → (n k : ℕ) → slice_get names n ≡ Some name → k < n → bytes_eq name (get_or names k []) ≡ false
-  no_earlier numbered n k there earlier = false_from_ne_true _ (λ equal.
+  pub no_earlier : AreApart names → (n k : ℕ) → slice_get names n ≡ Some name → k < n → bytes_eq name (get_or names k []) ≡ false
+  no_earlier apart n k there earlier = false_from_ne_true _ (λ equal.
       let within = slice_get_within names n name there in
-      let same = numbered.apart k n name (there_where_equal k (omega arith) equal) there in
+      let same = apart k n name (there_where_equal k (omega arith) equal) there in
       omega arith)
 
-  pub found_where_there : AreNumbered names → (n : ℕ) → slice_get names n ≡ Some name → position (bytes_eq name) names ≡ Some n
-  found_where_there numbered n there =
+  pub found_where_there : AreApart names → (n : ℕ) → slice_get names n ≡ Some name → position (bytes_eq name) names ≡ Some n
+  found_where_there apart n there =
       let within = slice_get_within names n name there in
       let is = get_or_from_slice_get names n name [] there in
       let here : bytes_eq name (get_or names n []) ≡ true = rw is ((bytes_eq-Decides name name).1 refl) in
-      let earlier : (k : ℕ) → k < n → bytes_eq name (get_or names k []) ≡ false = λ k lt. no_earlier numbered n k there lt in
+      let earlier : (k : ℕ) → k < n → bytes_eq name (get_or names k []) ≡ false = λ k lt. no_earlier apart n k there lt in
       let place = position_or_len_is (bytes_eq name) names n [] (omega arith) earlier (λ lt. here) in
       rw (place, lt-ltb n (length names) within)
 
 -- what a search for a name answers
 pub record Finds (names : List (List ℕ)) (name : List ℕ) (answer : Option ℕ) : Type 0 where
+  pub number : answer ≡ number_of names name
   pub found : (n : ℕ) → (answer ≡ Some n) ↔ (slice_get names n ≡ Some name)
   pub absent : IsNone answer ↔ (Contains names name → ⊥)
 
-pub first_place_finds : (vectors : List (Vec ℕ Global)) (name : List ℕ) (answer : Option ℕ) → AreNumbered (texts vectors)
+pub first_place_finds : (vectors : List (Vec ℕ Global)) (name : List ℕ) (answer : Option ℕ) → AreApart (texts vectors)
     → answer ≡ position (λ v. bytes_eq name v.items) vectors → Finds (texts vectors) name answer
-first_place_finds vectors name answer numbered is = record { found = found; absent = absent answer found }
+first_place_finds vectors name answer apart is = record { number = number; found = found; absent = absent answer found }
   where
+    number : answer ≡ number_of (texts vectors) name
+    number = is ∙ position-texts (bytes_eq name) vectors
+
     found : (n : ℕ) → (answer ≡ Some n) ↔ (slice_get (texts vectors) n ≡ Some name)
     found n =
-        let place = is ∙ position-texts (bytes_eq name) vectors in
-        (λ at. there_where_found (texts vectors) name n (sym place ∙ at), λ there. place ∙ found_where_there (texts vectors) name numbered n there)
+        (λ at. there_where_found (texts vectors) name n (sym number ∙ at), λ there. number ∙ found_where_there (texts vectors) name apart n there)
 
     absent : (answer : Option ℕ) → ((n : ℕ) → (answer ≡ Some n) ↔ (slice_get (texts vectors) n ≡ Some name))
         → IsNone answer ↔ (Contains (texts vectors) name → ⊥)

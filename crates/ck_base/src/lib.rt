@@ -5,23 +5,28 @@
 //! | want of memory, faults of a specification | `src/fault.rt` |
 //! | a name; names with numbers | `src/name.rt`, `src/names.rt`; `specs/Numbered.antt` |
 //! | a set of the numbers below a size; its words | `src/bits.rt`; `specs/BitSet.antt`; `specs/Words.antt` |
-//! | each refusal with its line and status | `src/refusal.rt`, `src/status.rt`; `specs/Lines.antt` |
-//! | a name has one number | `proofs/NameFound.antt`, `proofs/NameAdded.antt` |
-//! | the words act as the set | `proofs/WordsActAsSets.antt`, `proofs/OrJoinsBits.antt` |
+//! | sets with numbers | `src/set_numbers.rt`; `specs/Numbered.antt` |
+//! | more than so many of a kind; one of each sort | `specs/Counts.antt`; `specs/Represents.antt` |
+//! | each refusal, its line and its status | `src/refusal.rt`, `src/lines.rt`, `src/status.rt`; `specs/Lines.antt` |
+//! | a name has one number; what is met keeps it | `proofs/NameFound.antt`, `proofs/NameAdded.antt`; `proofs/NamesMet.antt` |
+//! | the words act as the set | `proofs/WordsActAsSets.antt`, `proofs/OrJoinsBits.antt`, `proofs/SameWords.antt` |
+//! | counts by the pigeonhole; lists with one of each sort | `proofs/Counting.antt`; `proofs/Representing.antt` |
 #![tactic(auto)]
 
 mod bits;
 mod fault;
+mod lines;
 mod name;
 mod names;
 mod refusal;
+mod set_numbers;
 mod status;
-#[cfg(test)]
-mod tests;
 
 pub use bits::Bits;
 pub use fault::{Kind, NoMemory, SpecFault};
+pub use lines::{MEMORY_LINE, READ_LINE, USAGE_LINE, WRITE_LINE};
 pub use name::Name;
 pub use names::Names;
-pub use refusal::{MEMORY_LINE, READ_LINE, Refusal, USAGE_LINE, WRITE_LINE};
+pub use refusal::{Refusal, StateKind};
+pub use set_numbers::SetNumbers;
 pub use status::Status;

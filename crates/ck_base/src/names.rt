@@ -1,5 +1,5 @@
-ghost use Rattle.std.specs.Prelude.{◌≡◌, ℕ, ◌+◌, ◌^◌, ◌<◌, ◌↔◌, [], length, IfOk, OnErr, IsNone, Contains, slice_get};
-ghost use Rattle.ck_base.specs.Numbered.{Interns};
+ghost use Rattle.std.specs.Prelude.{◌≡◌, ℕ, ◌+◌, ◌^◌, ◌<◌, ◌↔◌, [], ◌∷◌, length, IfOk, OnOk, OnErr, IsNone, Contains, slice_get};
+ghost use Rattle.ck_base.specs.Numbered.{met, number_of};
 
 use crate::fault::NoMemory;
 use indexmap::IndexSet;
@@ -35,10 +35,12 @@ impl Names {
         }
     }
 
-    /// The number of the name: its old one, else the next.
+    /// The number of the name: its old one, else the next. Room is asked for only where the name
+    /// is new.
     pub fn intern(&mut self, name: &[u8]) -> Result<u32, NoMemory>
-        requires { length self.old + 1 < 2 ^ 32 }
-        ensures number { IfOk result (λ n. Interns self.old self.new name.now n) }
+        requires { (Contains self.old name.now → ⊥) → length self.old + 1 < 2 ^ 32 }
+        ensures met { OnOk result (self.new ≡ met self.old (name.now ∷ [])) }
+        ensures number { IfOk result (λ n. number_of self.new name.now ≡ Some n) }
         ensures err { OnErr result (self.new ≡ self.old) }
     {
         if let Some(known) = self.find(name) {
@@ -51,6 +53,7 @@ impl Names {
 
     /// The number of the name, where it is there.
     pub fn find(&self, name: &[u8]) -> Option<u32>
+        ensures number { result ≡ number_of self.now name.now }
         ensures found { (n : ℕ) → (result ≡ Some n) ↔ (slice_get self.now n ≡ Some name.now) }
         ensures absent { IsNone result ↔ (Contains self.now name.now → ⊥) }
     {

@@ -5,11 +5,11 @@ use Rattle.ck_base.proofs.names.Names.find.Goals as goal
 
 pub returns : goal.returns
 returns c =
-    let finds = first_place_finds _ c.args.name.now (Some c.in_ok-index.index) c.self.invariant c.in_ok-index.ensures.index in
-    rw (← c.self.view_is) (record { found = finds.found; absent = finds.absent })
+    let finds = first_place_finds _ c.args.name.now (Some c.in_ok-index.index) c.self.invariant.apart c.in_ok-index.ensures.index in
+    rw (← c.self.view_is) (record { number = finds.number; found = finds.found; absent = finds.absent })
 
 pub returns-in_err-index : goal.returns-in_err-index
 returns-in_err-index c =
     let none : c.from_residual.result ≡ None = search rules in
-    let finds = first_place_finds _ c.args.name.now c.from_residual.result c.self.invariant (none ∙ c.in_err-index.ensures.index) in
-    rw (← c.self.view_is) (record { found = finds.found; absent = finds.absent })
+    let finds = first_place_finds _ c.args.name.now c.from_residual.result c.self.invariant.apart (none ∙ c.in_err-index.ensures.index) in
+    rw (← c.self.view_is) (record { number = finds.number; found = finds.found; absent = finds.absent })
