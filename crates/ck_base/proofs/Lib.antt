@@ -3,7 +3,7 @@ mod Examples
 mod NameAdded
 pub mod NameFound
 pub mod NamesMet
-mod OrJoinsBits
+pub mod OrJoinsBits
 pub mod Representing
 pub mod SameWords
 mod WordsActAsSets

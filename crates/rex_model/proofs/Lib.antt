@@ -1,4 +1,4 @@
-mod Adding
+pub mod Adding
 pub mod After
 mod BestOfRules
 mod BestPair
@@ -19,11 +19,12 @@ pub mod OneRun
 pub mod OneWinner
 pub mod PositionsToWords
 mod RunExamples
+pub mod RunsOfAutomata
 mod ScannerExamples
 mod ScanOfWinner
 mod StepOfParts
 mod StepOfString
-mod TakersOfParts
+pub mod TakersOfParts
 mod WinnerExamples
 pub mod Within
 pub mod WordsToPositions

@@ -1,8 +1,8 @@
 -- The sets of positions that come next after a word.
-use Rattle.std.specs.Prelude.{◌≡◌, ℕ, ◌+◌, ◌⊎◌, false, IsTrue, List, [], ◌∷◌}
+use Rattle.std.specs.Prelude.{◌≡◌, ℕ, ◌+◌, ◌<◌, ◌≤◌, ◌⊎◌, false, IsTrue, List, [], ◌∷◌, length, Some, slice_get}
 use Rattle.rex_model.specs.Language.{Re, none, class, sequence, alternative}
 use Rattle.rex_model.specs.Positions.{position_count, has_empty, First, Last, Follow}
-use Rattle.rex_model.specs.Rules.{Rule, trailing}
+use Rattle.rex_model.specs.Rules.{Rule, Rules, trailing}
 
 -- after the bytes of a word, taken at position p and those that follow, position q comes next
 pub data Goes (takes follow : ℕ → ℕ → Type 0) : ℕ → List ℕ → ℕ → Type 0 where
@@ -47,3 +47,10 @@ FirstBackwards r p = Last r 0 p ⊎ (IsTrue (has_empty r) × (p ≡ position_cou
 -- backwards, position q comes directly after p, and the end mark after a first position
 abbrev pub FollowBackwards : Re → ℕ → ℕ → Type 0
 FollowBackwards r p q = Follow r 0 q p ⊎ (First r 0 p × (q ≡ position_count r))
+
+-- rules of a scanner whose tables can be built: at most 4,096 positions, with an end mark for each
+-- rule, and each next state is one of the start states
+pub record IsScanner (rules : Rules) : Type 0 where
+  pub few : position_count (marked_rules rules.list) ≤ 4096
+  pub next : (i n : ℕ) (rule : Rule) → slice_get rules.list i ≡ Some rule → rule.next ≡ Some n
+      → n < length rules.states

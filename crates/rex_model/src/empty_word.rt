@@ -7,7 +7,8 @@ use crate::regex::Regex;
 
 /// Whether the empty word is in the expression's language.
 pub fn nullable(r: &Regex) -> bool
-    ensures { IsTrue result ↔ Language (meaning r.now) [] }
+    ensures language { IsTrue result ↔ Language (meaning r.now) [] }
+    ensures cases { result ≡ has_empty (meaning r.now) }
 {
     has_empty_word(r)
 }

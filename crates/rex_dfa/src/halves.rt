@@ -1,0 +1,47 @@
+ghost use Rattle.std.specs.Prelude.{◌<◌, IfOk, MatchOption};
+ghost use Rattle.rex_model.specs.Meaning.{meaning};
+ghost use Rattle.rex_model.specs.Positions.{position_count};
+ghost use Rattle.rex_model.specs.TableMeaning.{automaton_of};
+ghost use Rattle.rex_dfa.specs.within.Splits.{IsForward, HasMoreForward, IsBackward, HasMoreBackward};
+
+use crate::part_rows::{
+    befores_of, first_of_marked, lasts_of, marked_follows, positions_with, takers_of_part,
+};
+use crate::parts::{Part, part_of};
+use ck_base::{Bits, NoMemory};
+use rex_model::{Regex, add_first, positions};
+use std::alloc::Global;
+
+/// The automaton of the words of a body; `None` where it has more than 4,096 states.
+pub(crate) fn forward_of(alloc: Global, r: &Regex) -> Result<Option<Part>, NoMemory>
+    requires { position_count (meaning r.now) < 4096 }
+    ensures { IfOk result (λ part. MatchOption part (HasMoreForward (meaning r.now) 4096)
+        (λ part. IsForward (meaning r.now) (automaton_of part.dfa) part.count)) }
+{
+    let mark = positions(r);
+    let size = mark + 1;
+    let takers = takers_of_part(alloc, r, size)?;
+    let follows = marked_follows(alloc, r, size)?;
+    let table = positions_with(alloc, size, takers, follows)?;
+    let mut first = Bits::new(alloc, size)?;
+    first_of_marked(r, &mut first);
+    part_of(alloc, &table, first, mark)
+}
+
+/// The automaton of the words of a context, read from their end; `None` where it has more than 4,096
+/// states.
+pub(crate) fn backward_of(alloc: Global, r: &Regex) -> Result<Option<Part>, NoMemory>
+    requires { position_count (meaning r.now) < 4096 }
+    ensures { IfOk result (λ part. MatchOption part (HasMoreBackward (meaning r.now) 4096)
+        (λ part. IsBackward (meaning r.now) (automaton_of part.dfa) part.count)) }
+{
+    let mark = positions(r);
+    let size = mark + 1;
+    let takers = takers_of_part(alloc, r, size)?;
+    let mut first = Bits::new(alloc, size)?;
+    add_first(r, 0, &mut first);
+    let befores = befores_of(alloc, r, &first, size)?;
+    let table = positions_with(alloc, size, takers, befores)?;
+    let lasts = lasts_of(alloc, r, size)?;
+    part_of(alloc, &table, lasts, mark)
+}

@@ -1,0 +1,8 @@
+use Rattle.scan_driver.specs.within.Blocks.{Cutting}
+use Rattle.scan_driver.proofs.cutting.greatest_by_blocks.Given as goal
+
+abbrev pub invariant-loop-end : goal.invariant-loop-end
+invariant-loop-end l = Cutting l.split l.word l.end l.state
+
+abbrev pub decreases-loop-end : goal.decreases-loop-end
+decreases-loop-end l = l.end
