@@ -22,6 +22,7 @@ mod RunExamples
 pub mod RunsOfAutomata
 mod ScannerExamples
 mod ScanOfWinner
+mod SetExamples
 mod StepOfParts
 mod StepOfString
 pub mod TakersOfParts

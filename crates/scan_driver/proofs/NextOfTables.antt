@@ -46,7 +46,7 @@ pub scan_of_action : (tables : Tables) (rules : List Rule) (text : List ℕ) (st
     → Scans rules text state at (scan_with action i (at + n) state)
 scan_of_action tables rules text state at i n m action gives inside won is =
     let same : action ≡ record { token = won.candidate.rule.token; next = won.candidate.rule.next } =
-            same_Some action _ (sym is ∙ gives.action state (drop at text) i n m inside won) in
+    same_Some action _ (sym is ∙ gives.action state (drop at text) i n m inside won) in
     rw same (by_token won.candidate.rule.token refl)
   where
     by_token : (named : Option ℕ) → won.candidate.rule.token ≡ named → Scans rules text state at (scan_with (record { token = won.candidate.rule.token; next = won.candidate.rule.next }) i (at + n) state)
