@@ -25,7 +25,7 @@ pub(crate) fn main_of(
     ensures { IfOk result (λ table. MatchOption table
         (HasMoreScanSets (map rule_of rules.now) states 4096)
         (λ table. IsMain (map rule_of rules.now) states
-            table.starts.items (automaton_of table.dfa))) }
+        table.starts.items (automaton_of table.dfa))) }
 {
     let size = size_of(rules);
     let takers = takers_of(alloc, rules, size)?;

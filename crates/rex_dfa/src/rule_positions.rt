@@ -23,8 +23,7 @@ pub(crate) fn positions_of_rule(rule: &ScanRule) -> u32
 /// Adds the positions that come directly after position `p` of the rule. Its positions are numbered
 /// from `k`.
 pub(crate) fn follow_in_rule(rule: &ScanRule, k: u32, p: u32, to: &mut Bits)
-    requires room {
-        k + position_count (marked (body_and_context (rule_of rule.now))) ≤ to.old.size }
+    requires room { k + position_count (marked (body_and_context (rule_of rule.now))) ≤ to.old.size }
     requires fits { to.old.size < 2 ^ 32 }
     ensures { Adds to.old to.new (Follow (marked (body_and_context (rule_of rule.now))) k p) }
 {
@@ -88,12 +87,11 @@ pub(crate) fn first_of_rules(rules: &[ScanRule], state: u32, to: &mut Bits)
 
 /// Adds the first positions of the rule where it is active in the state.
 fn first_if_active(rule: &ScanRule, state: u32, k: u32, to: &mut Bits)
-    requires room {
-        k + position_count (marked (body_and_context (rule_of rule.now))) ≤ to.old.size }
+    requires room { k + position_count (marked (body_and_context (rule_of rule.now))) ≤ to.old.size }
     requires fits { to.old.size < 2 ^ 32 }
     ensures { Adds to.old to.new (λ q.
         IsTrue ((rule_of rule.now).active state)
-            × First (marked (body_and_context (rule_of rule.now))) k q) }
+        × First (marked (body_and_context (rule_of rule.now))) k q) }
 {
     if rule.states.has(state) {
         first_of_rule(rule, k, to);
@@ -102,8 +100,7 @@ fn first_if_active(rule: &ScanRule, state: u32, k: u32, to: &mut Bits)
 
 /// Adds the first positions of the rule.
 fn first_of_rule(rule: &ScanRule, k: u32, to: &mut Bits)
-    requires room {
-        k + position_count (marked (body_and_context (rule_of rule.now))) ≤ to.old.size }
+    requires room { k + position_count (marked (body_and_context (rule_of rule.now))) ≤ to.old.size }
     requires fits { to.old.size < 2 ^ 32 }
     ensures { Adds to.old to.new (First (marked (body_and_context (rule_of rule.now))) k) }
 {
@@ -144,8 +141,7 @@ pub(crate) fn takers_in_rules(rules: &[ScanRule], byte: u8, to: &mut Bits)
 
 /// The same for one rule.
 fn takers_in_rule(rule: &ScanRule, k: u32, byte: u8, to: &mut Bits)
-    requires room {
-        k + position_count (marked (body_and_context (rule_of rule.now))) ≤ to.old.size }
+    requires room { k + position_count (marked (body_and_context (rule_of rule.now))) ≤ to.old.size }
     requires fits { to.old.size < 2 ^ 32 }
     ensures { Adds to.old to.new (λ p.
         Takes (marked (body_and_context (rule_of rule.now))) k p byte) }

@@ -14,7 +14,7 @@ pub(crate) fn takers_of(alloc: Global, rules: &[ScanRule], size: u32) -> Result<
     requires { position_count (marked_rules (map rule_of rules.now)) ≤ size }
     ensures { IfOk result (λ sets.
         AreRows size 256 (λ byte p. Takes (marked_rules (map rule_of rules.now)) 0 p byte)
-            sets.items) }
+        sets.items) }
 {
     let mut sets = Vec::new(alloc);
     for byte in 0..256usize {

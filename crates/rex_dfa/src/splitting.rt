@@ -51,8 +51,7 @@ fn add_split(
 ) -> Result<Option<u32>, NoMemory>
     requires inside { i < length rules.now }
     requires few { position_count (marked_rules (map rule_of rules.now)) ≤ 4096 }
-    requires splitting {
-        Splitting (map rule_of rules.now) i (map halves_of splits.old.items) total }
+    requires splitting { Splitting (map rule_of rules.now) i (map halves_of splits.old.items) total }
     ensures { IfOk result (λ total. MatchOption total
         (HasMoreSplitSets (map rule_of rules.now) 4096)
         (Splitting (map rule_of rules.now) (i + 1) (map halves_of splits.new.items))) }
@@ -86,7 +85,7 @@ fn made_of(
     ensures { IfOk result (λ made. MatchOption made
         (HasMoreForward (meaning body.now) 4096 ⊎ HasMoreBackward (meaning context.now) 4096)
         (λ made. IsMade rule (meaning body.now) (meaning context.now)
-            (halves_of made.split) made.count)) }
+        (halves_of made.split) made.count)) }
 {
     match forward_of(alloc, body)? {
         Some(forward) => match backward_of(alloc, context)? {

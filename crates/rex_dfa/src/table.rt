@@ -31,7 +31,7 @@ pub(crate) fn table_of(
     ensures { IfOk result (λ table. MatchOption table
         (HasMoreSets positions.now firsts.now.items 4096)
         (λ table. IsTable positions.now firsts.now.items marks.now
-            table.starts.items (automaton_of table.dfa))) }
+        table.starts.items (automaton_of table.dfa))) }
 {
     let mut sets = SetNumbers::new(alloc);
     let begun = starts_of(alloc, positions, firsts.as_slice(), &mut sets)?;
