@@ -1,5 +1,5 @@
 -- The greatest place at which both automata of a split accept.
-use Rattle.std.proofs.Common.{◌≡◌, ℕ, ◌+◌, ◌-◌, ◌<◌, ◌≤◌, List, length, take, drop, reverse, get_or, IsSome, arith, subst, sym, ap, Some, ◌∙◌, inl, inr}
+use Rattle.std.proofs.Common.{◌≡◌, ℕ, ◌-◌, ◌<◌, ◌≤◌, List, take, get_or, IsSome, arith, subst, sym, Some, ◌∙◌, inl, inr}
 use Rattle.std.proofs.lemmas.Bool.{cases_eq}
 use Rattle.rex_model.specs.Runs.{moved, run, accepted, IsStateOf}
 use Rattle.std.proofs.lemmas.Option.{none-some, same_Some}

@@ -1,11 +1,11 @@
 -- Flags of a block, and going back through it.
-use Rattle.std.proofs.Common.{◌≡◌, ℕ, ◌+◌, ◌-◌, ◌<◌, ◌≤◌, ◌↔◌, Bool, true, false, List, length, take, get_or, IsSome, arith, refl, sym, ap, subst, inl, inr, ◌∙◌}
+use Rattle.std.proofs.Common.{◌≡◌, ℕ, ◌+◌, ◌-◌, ◌<◌, ◌≤◌, ◌↔◌, Bool, true, false, List, length, take, get_or, IsSome, arith, refl, sym, subst, inl, inr, ◌∙◌}
 use Rattle.std.proofs.Common.{set, length-set}
 use Rattle.std.proofs.lemmas.Bool.{cases_eq}
 use Rattle.std.proofs.lemmas.List.{get_or-set_other}
 use Rattle.std.proofs.lemmas.Grind.{get_or-set_at}
 use Rattle.scan_driver.specs.within.Blocks.{AreFlags}
-use Rattle.rex_model.specs.Runs.{run, accepted, IsStateOf}
+use Rattle.rex_model.specs.Runs.{run, accepted}
 use Rattle.rex_model.specs.Runs.{Automaton}
 use Rattle.scan_driver.proofs.RunsAlong.{IsAlong}
 

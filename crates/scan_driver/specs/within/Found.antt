@@ -1,5 +1,5 @@
 -- What a run finds, and what a scan answers with it.
-use Rattle.std.specs.Prelude.{◌≡◌, ℕ, ◌<◌, ◌≤◌, List, length, Option, Some, None}
+use Rattle.std.specs.Prelude.{ℕ, ◌<◌, ◌≤◌, List, length, Option, Some, None}
 use Rattle.rex_model.specs.Winner.{Winner}
 use Rattle.rex_model.specs.Rules.{Rule}
 use Rattle.rex_model.specs.Tables.{GivesWinners}

@@ -1,4 +1,4 @@
-use Rattle.std.proofs.Common.{◌≡◌, ℕ, ◌+◌, ◌-◌, ◌<◌, ◌≤◌, true, false, true≢false, arith, refl, sym, ap, subst, ◌∙◌, IsSome, take, get_or}
+use Rattle.std.proofs.Common.{◌≡◌, ◌+◌, ◌-◌, false, true≢false, arith, sym, subst, ◌∙◌, IsSome, take}
 use Rattle.std.specs.Option.{is_some}
 use Rattle.rex_model.specs.Runs.{run, accepted}
 use Rattle.rex_model.specs.TableMeaning.{halves_of}

@@ -1,4 +1,4 @@
-use Rattle.std.proofs.Common.{◌≡◌, ℕ, ◌+◌, ◌-◌, ◌<◌, ◌≤◌, ◌↔◌, true, false, arith, refl, sym, ap, subst, ◌∙◌, IsSome}
+use Rattle.std.proofs.Common.{◌≡◌, ◌+◌, ◌↔◌, true, arith, IsSome}
 use Rattle.rex_model.specs.Runs.{accepted}
 use Rattle.rex_model.specs.TableMeaning.{automaton_of}
 use Rattle.scan_driver.proofs.Flags.{flags_skipped, flags_more}

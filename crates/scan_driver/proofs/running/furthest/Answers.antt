@@ -1,5 +1,5 @@
 -- One byte more, or no state.
-use Rattle.std.proofs.Common.{◌≡◌, ◌+◌, ◌*◌, ◌<◌, get_or, length, refl, arith}
+use Rattle.std.proofs.Common.{◌+◌, ◌*◌, ◌<◌, get_or, length, refl, arith}
 use Rattle.rex_model.specs.TableMeaning.{automaton_of}
 use Rattle.scan_driver.proofs.FurthestRuns.{goes_on, stops}
 use Rattle.scan_driver.proofs.running.furthest.Goals as goal

@@ -1,4 +1,4 @@
-use Rattle.std.proofs.Common.{refl, rules, arith, ap, ◌∙◌, ◌+◌}
+use Rattle.std.proofs.Common.{arith, ap, ◌∙◌, ◌+◌}
 use Rattle.rex_model.specs.TableMeaning.{automaton_of}
 use Rattle.scan_driver.specs.within.Found.{found_with}
 use Rattle.scan_driver.proofs.RunsAlong.{run_goes_on, run_stops}

@@ -1,9 +1,8 @@
-use Rattle.std.proofs.Common.{◌≡◌, ℕ, ◌∙◌, ◌<◌, ◌≤◌, length, refl, arith, sym, subst, List, take, drop, get_or}
+use Rattle.std.proofs.Common.{length, refl, arith, subst}
 use Rattle.std.proofs.lemmas.List.{take_rest}
 use Rattle.std.proofs.lemmas.Option.{slice_get_read}
-use Rattle.rex_model.specs.Run.{Scans, token, skip, bad, end}
+use Rattle.rex_model.specs.Run.{bad, end}
 use Rattle.rex_model.specs.Winner.{Winner, HasNoCandidate}
-use Rattle.rex_model.specs.Tables.{GivesWinners}
 use Rattle.rex_model.specs.TableMeaning.{tables_of}
 use Rattle.scan_driver.proofs.NextOfTables.{scan_of_action}
 use Rattle.scan_driver.proofs.scanning.next.Goals as goal

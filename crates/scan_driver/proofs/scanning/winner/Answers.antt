@@ -1,8 +1,7 @@
-use Rattle.std.proofs.Common.{map, ◌≡◌, ℕ, ◌∙◌, sym, subst, List, take, get_or}
+use Rattle.std.proofs.Common.{map, ◌≡◌, ◌∙◌, subst, List, take}
 use Rattle.std.proofs.lemmas.List.{get_or_default}
-use Rattle.rex_model.specs.Rules.{Rule}
 use Rattle.rex_model.specs.Runs.{IsLongestRun, AcceptsNothing}
-use Rattle.rex_model.specs.Tables.{IsCut, GivesWinners, start_of}
+use Rattle.rex_model.specs.Tables.{IsCut, start_of}
 use Rattle.rex_model.specs.TableMeaning.{halves_of, tables_of}
 use Rattle.rex_model.specs.declared.tables.Split.{Split}
 use Rattle.scan_driver.proofs.NextOfTables.{won}
