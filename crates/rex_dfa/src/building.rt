@@ -25,12 +25,13 @@ pub(crate) enum Built {
     TooMany(StateKind),
 }
 
-/// The tables of the rules, with a start for each start state, an action for each rule and a split for
-/// each rule with a context.
+/// The tables of the rules, with a start for each start state, an action for each rule and a split
+/// for each rule with a context.
 pub fn build(alloc: Global, rules: &ScanRules) -> Result<ScanTables, DfaError>
     requires { IsScanner (rules_of rules.now) }
     ensures well_formed { IfOk result (λ tables. IsWellFormed (tables_of tables)) }
-    ensures gives { IfOk result (λ tables. GivesWinners (tables_of tables) (rules_of rules.now).list) }
+    ensures gives { IfOk result (λ tables.
+        GivesWinners (tables_of tables) (rules_of rules.now).list) }
     ensures starts { IfOk result (λ tables.
         length (tables_of tables).starts ≡ length (rules_of rules.now).states) }
     ensures bodies { IfOk result (λ tables. HasNo (IsNullable (rules_of rules.now).list)) }
@@ -92,7 +93,8 @@ fn tables_with(alloc: Global, rules: &[ScanRule], states: u32) -> Result<Built, 
 
 /// What is done with the texts of the rules.
 fn actions_of(alloc: Global, rules: &[ScanRule]) -> Result<Vec<ScanAction>, NoMemory>
-    ensures { IfOk result (λ actions. AreActions (map rule_of rules.now) (length rules.now) actions.items) }
+    ensures { IfOk result (λ actions.
+        AreActions (map rule_of rules.now) (length rules.now) actions.items) }
 {
     let mut actions = Vec::new(alloc);
     for rule in rules {

@@ -28,8 +28,8 @@ pub(crate) fn forward_of(alloc: Global, r: &Regex) -> Result<Option<Part>, NoMem
     part_of(alloc, &table, first, mark)
 }
 
-/// The automaton of the words of a context, read from their end; `None` where it has more than 4,096
-/// states.
+/// The automaton of the words of a context, read from their end; `None` where it has more than
+/// 4,096 states.
 pub(crate) fn backward_of(alloc: Global, r: &Regex) -> Result<Option<Part>, NoMemory>
     requires { position_count (meaning r.now) < 4096 }
     ensures { IfOk result (λ part. MatchOption part (HasMoreBackward (meaning r.now) 4096)

@@ -24,7 +24,8 @@ pub(crate) fn main_of(
     requires { position_count (marked_rules (map rule_of rules.now)) ≤ 4096 }
     ensures { IfOk result (λ table. MatchOption table
         (HasMoreScanSets (map rule_of rules.now) states 4096)
-        (λ table. IsMain (map rule_of rules.now) states table.starts.items (automaton_of table.dfa))) }
+        (λ table. IsMain (map rule_of rules.now) states
+        table.starts.items (automaton_of table.dfa))) }
 {
     let size = size_of(rules);
     let takers = takers_of(alloc, rules, size)?;

@@ -34,7 +34,8 @@ pub(crate) fn accepts_of(
 ) -> Result<Vec<Option<u32>>, NoMemory>
     requires fit { (s : ℕ) → s < length sets.now → IsFit size (get_or sets.now s []) }
     requires few { length marks.now < 2 ^ 32 }
-    ensures { IfOk result (λ accepts. MarksSets marks.now size sets.now accepts.items (length sets.now)) }
+    ensures { IfOk result (λ accepts.
+        MarksSets marks.now size sets.now accepts.items (length sets.now)) }
 {
     let mut accepts = Vec::new(alloc);
     for s in 0..sets.len() {

@@ -42,7 +42,8 @@ pub(crate) fn positions_with(
 /// For each byte the positions of the expression that take it.
 pub(crate) fn takers_of_part(alloc: Global, r: &Regex, size: u32) -> Result<Vec<Bits>, NoMemory>
     requires { position_count (meaning r.now) + 1 ≤ size }
-    ensures { IfOk result (λ sets. AreRows size 256 (λ byte p. Takes (meaning r.now) 0 p byte) sets.items) }
+    ensures { IfOk result (λ sets.
+        AreRows size 256 (λ byte p. Takes (meaning r.now) 0 p byte) sets.items) }
 {
     let mut sets = Vec::new(alloc);
     for byte in 0..256usize {
@@ -56,7 +57,8 @@ pub(crate) fn takers_of_part(alloc: Global, r: &Regex, size: u32) -> Result<Vec<
 /// For each position those that come directly after it, with the end mark.
 pub(crate) fn marked_follows(alloc: Global, r: &Regex, size: u32) -> Result<Vec<Bits>, NoMemory>
     requires { position_count (meaning r.now) + 1 ≤ size }
-    ensures { IfOk result (λ sets. AreRows size size (Follow (marked (meaning r.now)) 0) sets.items) }
+    ensures { IfOk result (λ sets.
+        AreRows size size (Follow (marked (meaning r.now)) 0) sets.items) }
 {
     let mut sets = Vec::new(alloc);
     for p in 0..size {

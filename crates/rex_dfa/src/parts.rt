@@ -22,8 +22,8 @@ pub(crate) struct Part {
     pub(crate) count: u32,
 }
 
-/// The automaton of the sets from one first set on, which accepts where the mark is in the set; `None`
-/// where it has more than 4,096 states.
+/// The automaton of the sets from one first set on, which accepts where the mark is in the set;
+/// `None` where it has more than 4,096 states.
 pub(crate) fn part_of(
     alloc: Global,
     positions: &Positions,
@@ -58,7 +58,8 @@ fn part_with(
     table: Table,
 ) -> Result<Part, NoMemory>
     requires one { (first : BitSet) × (firsts.now.items ≡ first ∷ []) }
-    requires table { IsTable positions.now firsts.now.items (mark ∷ []) table.starts.items (automaton_of table.dfa) }
+    requires table { IsTable positions.now firsts.now.items (mark ∷ [])
+        table.starts.items (automaton_of table.dfa) }
     ensures { IfOk result (λ part. IsPart (TakesAt positions.now) (FollowsAt positions.now)
         (FirstAt firsts.now.items 0) mark (automaton_of part.dfa) part.count) }
 {

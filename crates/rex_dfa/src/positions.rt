@@ -5,8 +5,9 @@ ghost use Rattle.rex_dfa.specs.within.Positions.{ArePositions, AreTakers, Joinin
 
 use ck_base::Bits;
 
-/// The positions of an expression: for each byte those that take it, and for each position those that
-/// come directly after it. `alike` has for each byte the least one that the same positions take.
+/// The positions of an expression: for each byte those that take it, and for each position those
+/// that come directly after it. `alike` has for each byte the least one that the same positions
+/// take.
 #[derive(Drop)]
 pub(crate) struct Positions {
     pub(crate) size: u32,
@@ -16,8 +17,8 @@ pub(crate) struct Positions {
 }
 
 impl Positions {
-    /// Makes `to` the set of the positions that come next after the byte was taken at some position of
-    /// the set with the words `from`.
+    /// Makes `to` the set of the positions that come next after the byte was taken at some position
+    /// of the set with the words `from`.
     pub(crate) fn next(&self, from: &[u64], byte: u8, to: &mut Bits)
         requires positions { ArePositions self.now }
         requires size { to.old.size ≡ self.now.size }

@@ -90,7 +90,8 @@ fn first_if_active(rule: &ScanRule, state: u32, k: u32, to: &mut Bits)
     requires room { k + position_count (marked (body_and_context (rule_of rule.now))) ≤ to.old.size }
     requires fits { to.old.size < 2 ^ 32 }
     ensures { Adds to.old to.new (λ q.
-        IsTrue ((rule_of rule.now).active state) × First (marked (body_and_context (rule_of rule.now))) k q) }
+        IsTrue ((rule_of rule.now).active state)
+        × First (marked (body_and_context (rule_of rule.now))) k q) }
 {
     if rule.states.has(state) {
         first_of_rule(rule, k, to);
@@ -142,7 +143,8 @@ pub(crate) fn takers_in_rules(rules: &[ScanRule], byte: u8, to: &mut Bits)
 fn takers_in_rule(rule: &ScanRule, k: u32, byte: u8, to: &mut Bits)
     requires room { k + position_count (marked (body_and_context (rule_of rule.now))) ≤ to.old.size }
     requires fits { to.old.size < 2 ^ 32 }
-    ensures { Adds to.old to.new (λ p. Takes (marked (body_and_context (rule_of rule.now))) k p byte) }
+    ensures { Adds to.old to.new (λ p.
+        Takes (marked (body_and_context (rule_of rule.now))) k p byte) }
 {
     add_takers(rule.body, k, byte, to);
     if let Some(context) = rule.context {

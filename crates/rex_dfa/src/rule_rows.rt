@@ -13,7 +13,8 @@ use std::alloc::Global;
 pub(crate) fn takers_of(alloc: Global, rules: &[ScanRule], size: u32) -> Result<Vec<Bits>, NoMemory>
     requires { position_count (marked_rules (map rule_of rules.now)) ≤ size }
     ensures { IfOk result (λ sets.
-        AreRows size 256 (λ byte p. Takes (marked_rules (map rule_of rules.now)) 0 p byte) sets.items) }
+        AreRows size 256 (λ byte p. Takes (marked_rules (map rule_of rules.now)) 0 p byte)
+        sets.items) }
 {
     let mut sets = Vec::new(alloc);
     for byte in 0..256usize {
@@ -44,8 +45,8 @@ pub(crate) fn follows_of(
     Ok(sets)
 }
 
-/// For each position of the rule those that come directly after it. The rule's positions are numbered
-/// from `at`.
+/// For each position of the rule those that come directly after it. The rule's positions are
+/// numbered from `at`.
 fn follows_of_rule(
     alloc: Global,
     rule: &ScanRule,

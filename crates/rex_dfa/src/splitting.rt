@@ -25,7 +25,8 @@ pub(crate) struct Made {
 /// The splits of the rules; `None` where they have more than 4,096 sets together.
 pub(crate) fn splits_of(alloc: Global, rules: &[ScanRule]) -> Result<Option<Vec<Split>>, NoMemory>
     requires { position_count (marked_rules (map rule_of rules.now)) ≤ 4096 }
-    ensures { IfOk result (λ splits. MatchOption splits (HasMoreSplitSets (map rule_of rules.now) 4096)
+    ensures { IfOk result (λ splits. MatchOption splits
+        (HasMoreSplitSets (map rule_of rules.now) 4096)
         (λ splits. AreSplits (map rule_of rules.now) (map halves_of splits.items))) }
 {
     let mut splits = Vec::new(alloc);
@@ -39,7 +40,8 @@ pub(crate) fn splits_of(alloc: Global, rules: &[ScanRule]) -> Result<Option<Vec<
     Ok(Some(splits))
 }
 
-/// Adds the split of rule `i`, where it has a context; `None` where the splits have too many sets then.
+/// Adds the split of rule `i`, where it has a context; `None` where the splits have too many sets
+/// then.
 fn add_split(
     alloc: Global,
     rules: &[ScanRule],
@@ -50,7 +52,8 @@ fn add_split(
     requires inside { i < length rules.now }
     requires few { position_count (marked_rules (map rule_of rules.now)) ≤ 4096 }
     requires splitting { Splitting (map rule_of rules.now) i (map halves_of splits.old.items) total }
-    ensures { IfOk result (λ total. MatchOption total (HasMoreSplitSets (map rule_of rules.now) 4096)
+    ensures { IfOk result (λ total. MatchOption total
+        (HasMoreSplitSets (map rule_of rules.now) 4096)
         (Splitting (map rule_of rules.now) (i + 1) (map halves_of splits.new.items))) }
 {
     let rule = &rules[i];
@@ -81,7 +84,8 @@ fn made_of(
     requires context { position_count (meaning context.now) < 4096 }
     ensures { IfOk result (λ made. MatchOption made
         (HasMoreForward (meaning body.now) 4096 ⊎ HasMoreBackward (meaning context.now) 4096)
-        (λ made. IsMade rule (meaning body.now) (meaning context.now) (halves_of made.split) made.count)) }
+        (λ made. IsMade rule (meaning body.now) (meaning context.now)
+        (halves_of made.split) made.count)) }
 {
     match forward_of(alloc, body)? {
         Some(forward) => match backward_of(alloc, context)? {

@@ -86,8 +86,8 @@ fn next_move(
     requires done { length moves.now ≡ 256 * s + byte }
     requires known { (b : ℕ) → b < byte → IsKnownMove positions.now sets.old moves.now s b }
     ensures size { to.new.size ≡ positions.now.size }
-    ensures number { IfOk result (λ number.
-        Numbers positions.now sets.old sets.new (NextOf positions.now (get_or sets.old s []) byte) number) }
+    ensures number { IfOk result (λ number. Numbers positions.now sets.old sets.new
+        (NextOf positions.now (get_or sets.old s []) byte) number) }
 {
     let like = positions.alike[byte as usize];
     if like < byte {
@@ -105,7 +105,8 @@ fn is_as_before(positions: &Positions, sets: &SetNumbers, s: u32, byte: u8) -> b
     requires positions { ArePositions positions.now }
     requires inside { s < length sets.now }
     requires fit { IsFit positions.now.size (get_or sets.now s []) }
-    ensures { IsTrue result → (0 < byte) × IsSameTaken positions.now (get_or sets.now s []) (byte - 1) byte }
+    ensures { IsTrue result
+        → (0 < byte) × IsSameTaken positions.now (get_or sets.now s []) (byte - 1) byte }
 {
     if byte == 0 {
         return false;
@@ -127,8 +128,8 @@ fn move_of(
     requires fit { IsFit positions.now.size (get_or sets.old s []) }
     requires size { to.old.size ≡ positions.now.size }
     ensures size { to.new.size ≡ positions.now.size }
-    ensures number { IfOk result (λ number.
-        Numbers positions.now sets.old sets.new (NextOf positions.now (get_or sets.old s []) byte) number) }
+    ensures number { IfOk result (λ number. Numbers positions.now sets.old sets.new
+        (NextOf positions.now (get_or sets.old s []) byte) number) }
 {
     let from = sets.words_of(s);
     positions.next(from, byte, to);

@@ -28,8 +28,10 @@ pub(crate) fn table_of(
     requires positions { ArePositions positions.now }
     requires sizes { All (λ set. set.size ≡ positions.now.size) firsts.now.items }
     requires few { length marks.now < 2 ^ 32 }
-    ensures { IfOk result (λ table. MatchOption table (HasMoreSets positions.now firsts.now.items 4096)
-        (λ table. IsTable positions.now firsts.now.items marks.now table.starts.items (automaton_of table.dfa))) }
+    ensures { IfOk result (λ table. MatchOption table
+        (HasMoreSets positions.now firsts.now.items 4096)
+        (λ table. IsTable positions.now firsts.now.items marks.now
+        table.starts.items (automaton_of table.dfa))) }
 {
     let mut sets = SetNumbers::new(alloc);
     let begun = starts_of(alloc, positions, firsts.as_slice(), &mut sets)?;

@@ -23,6 +23,7 @@ pub mod RunsOfAutomata
 mod ScannerExamples
 pub mod SomeRun
 mod ScanOfWinner
+mod SetExamples
 mod StepOfParts
 mod StepOfString
 pub mod TakersOfParts

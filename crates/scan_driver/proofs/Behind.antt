@@ -1,5 +1,5 @@
 -- The greatest place at which both automata of a split accept.
-use Rattle.std.proofs.Common.{◌≡◌, ℕ, ◌+◌, ◌-◌, ◌<◌, ◌≤◌, List, length, take, drop, reverse, get_or, IsSome, arith, subst, sym, ap, Some, ◌∙◌, inl, inr}
+use Rattle.std.proofs.Common.{◌≡◌, ℕ, ◌-◌, ◌<◌, ◌≤◌, List, take, get_or, IsSome, arith, subst, sym, Some, ◌∙◌, inl, inr}
 use Rattle.std.proofs.lemmas.Bool.{cases_eq}
 use Rattle.rex_model.specs.Runs.{moved, run, accepted, IsStateOf}
 use Rattle.std.proofs.lemmas.Option.{none-some, same_Some}
@@ -17,8 +17,8 @@ cutting_more split word n state next some before not_here moves state_of =
       behind = behind_more split.backward word (n - 1) state next (omega arith) (subst (λ k. IsBehind split.backward word k state) (omega arith) before.behind) moves state_of;
       none = λ k above parts. elim (cases_eq k n) [
         | inl same ↦
-          let here : AreParts split word n = subst (AreParts split word) same parts in
-          not_here (subst (λ t. IsSome (accepted split.backward t)) (sym before.behind.is) here.backward, here.forward)
+            let here : AreParts split word n = subst (AreParts split word) same parts in
+            not_here (subst (λ t. IsSome (accepted split.backward t)) (sym before.behind.is) here.backward, here.forward)
         | inr other ↦ before.none k (omega arith) parts
       ];
     }

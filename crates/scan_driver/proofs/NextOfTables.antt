@@ -1,14 +1,12 @@
 -- What the tables find is what wins.
-use Rattle.std.proofs.Common.{◌≡◌, ℕ, ◌+◌, ◌-◌, ◌<◌, ◌≤◌, List, length, take, drop, Option, Some, None, arith, refl, sym, ap, subst, ◌∙◌, slice_get}
+use Rattle.std.proofs.Common.{◌≡◌, ℕ, ◌+◌, ◌<◌, List, length, take, drop, Option, Some, None, arith, refl, sym, subst, ◌∙◌, slice_get}
 use Rattle.std.proofs.lemmas.Option.{none-some, same_Some, slice_get_within}
-use Rattle.rex_model.specs.Run.{Scans, token, skip, bad, end}
-use Rattle.rex_model.specs.Winner.{Winner, next_state, HasNoCandidate}
+use Rattle.rex_model.specs.Run.{Scans, token, skip}
+use Rattle.rex_model.specs.Winner.{Winner}
 use Rattle.rex_model.specs.Rules.{Rule}
-use Rattle.rex_model.specs.declared.scan.Scan.{Scan}
-use Rattle.rex_model.specs.declared.scan.Scan.TheVariants as scan
 use Rattle.scan_driver.specs.within.Found.{scan_with, IsWon}
 use Rattle.rex_model.specs.Runs.{AreBytes, IsLongestRun}
-use Rattle.rex_model.specs.Tables.{split_of, AreParts, IsCut, whole, parts, start_of, GivesWinners}
+use Rattle.rex_model.specs.Tables.{AreParts, IsCut, whole, parts, start_of, GivesWinners}
 use Rattle.rex_model.specs.declared.tables.ScanAction.{ScanAction}
 use Rattle.rex_model.specs.Tables.{Tables}
 use Rattle.rex_model.specs.Tables.{Halves}
@@ -46,7 +44,7 @@ pub scan_of_action : (tables : Tables) (rules : List Rule) (text : List ℕ) (st
     → Scans rules text state at (scan_with action i (at + n) state)
 scan_of_action tables rules text state at i n m action gives inside won is =
     let same : action ≡ record { token = won.candidate.rule.token; next = won.candidate.rule.next } =
-            same_Some action _ (sym is ∙ gives.action state (drop at text) i n m inside won) in
+    same_Some action _ (sym is ∙ gives.action state (drop at text) i n m inside won) in
     rw same (by_token won.candidate.rule.token refl)
   where
     by_token : (named : Option ℕ) → won.candidate.rule.token ≡ named → Scans rules text state at (scan_with (record { token = won.candidate.rule.token; next = won.candidate.rule.next }) i (at + n) state)

@@ -1,28 +1,16 @@
 -- Runs along a text, byte by byte.
-use Rattle.std.proofs.Common.{◌≡◌, ℕ, zero, suc, ◌+◌, ◌*◌, ◌-◌, ◌<◌, ◌≤◌, ◌⊎◌, ◌↔◌, List, [], ◌∷◌, ◌++◌, length, take, drop, reverse, get_or, Option, Some, None, IsSome, MatchOption, arith, refl, sym, ap, subst, ◌∙◌, inl, inr, slice_get, slice_index}
+use Rattle.std.proofs.Common.{◌≡◌, ℕ, ◌+◌, ◌-◌, ◌<◌, ◌≤◌, List, [], ◌∷◌, length, take, drop, reverse, get_or, Option, Some, None, MatchOption, arith, refl, sym, ap, subst, ◌∙◌, inl, inr}
 use Rattle.std.proofs.lemmas.Bool.{cases_eq, cases_lt}
-use Rattle.std.proofs.lemmas.Option.{none-some, same_Some}
-use Rattle.std.proofs.lemmas.List.{take_more, drop_more}
-use Rattle.rex_dfa.proofs.CutWords.{cut_at}
-use Rattle.rex_dfa.proofs.BackwardWords.{reverse_more}
+use Rattle.std.proofs.lemmas.Option.{none-some}
+use Rattle.std.proofs.lemmas.List.{drop_more}
+use Rattle.std.proofs.lemmas.List.{reverse-append}
+use Rattle.std.proofs.Math.Seq.{take-add}
+use Rattle.rex_model.proofs.RunsOfAutomata.{run-append, run_more, run_nowhere}
 use Rattle.scan_driver.specs.within.Blocks.{IsBehind}
 use Rattle.scan_driver.specs.within.Found.{found_with}
 use Rattle.rex_model.specs.Runs.{nowhere, moved, run, accepted, IsStateOf, IsLongestRun, AcceptsNothing}
-use Rattle.scan_driver.specs.declared.driving.Found.{Found}
+use Rattle.scan_driver.specs.declared.running.Found.{Found}
 use Rattle.rex_model.specs.Runs.{Automaton}
-
-pub run-append : (dfa : Automaton) (s : ℕ) (u v : List ℕ) → run dfa s (u ++ v) ≡ run dfa (run dfa s u) v
-run-append dfa s [] v = refl
-run-append dfa s (b ∷ u) v = run-append dfa (moved dfa s b) u v
-
--- a run over one byte more
-pub run_more : (dfa : Automaton) (s i : ℕ) (text : List ℕ) → i < length text
-    → run dfa s (take (i + 1) text) ≡ moved dfa (run dfa s (take i text)) (get_or text i 0)
-run_more dfa s i text within = ap (run dfa s) (take_more text i 0 within) ∙ run-append dfa s (take i text) (get_or text i 0 ∷ [])
-
-pub run_nowhere : (dfa : Automaton) (w : List ℕ) → run dfa nowhere w ≡ nowhere
-run_nowhere dfa [] = refl
-run_nowhere dfa (b ∷ w) = run_nowhere dfa w
 
 module _ (dfa : Automaton) (s : ℕ) (text : List ℕ) where
   -- what is found among the beginnings of at most i bytes
@@ -81,8 +69,8 @@ module _ (dfa : Automaton) (s : ℕ) (text : List ℕ) where
   accepts_none : (i state l j : ℕ) → state ≡ nowhere → state ≡ run dfa s (take i text) → i ≤ l → accepted dfa (run dfa s (take l text)) ≡ Some j → ⊥
   accepts_none i state l j at is past some =
       let on : run dfa s (take l text) ≡ nowhere =
-              ap (run dfa s) (cut_at text i l past) ∙ run-append dfa s (take i text) (take (l - i) (drop i text))
-                  ∙ ap (λ t. run dfa t (take (l - i) (drop i text))) (sym is ∙ at) ∙ run_nowhere dfa (take (l - i) (drop i text)) in
+      ap (run dfa s) (ap (λ k. take k text) (omega arith) ∙ take-add i (l - i) text) ∙ run-append dfa s (take i text) (take (l - i) (drop i text))
+      ∙ ap (λ t. run dfa t (take (l - i) (drop i text))) (sym is ∙ at) ∙ run_nowhere dfa (take (l - i) (drop i text)) in
       none-some j (sym (ap (accepted dfa) on) ∙ some)
 
   pub run_stops : (i state : ℕ) (found : Option Found) → Running i state found → i ≤ length text → state ≡ nowhere → MatchFound found
@@ -121,7 +109,7 @@ behind_more dfa word n state next within before moves state_of = record {
   within = omega arith;
   is = moves ∙ ap (λ t. moved dfa t (get_or word n 0)) before.is
       ∙ sym (run-append dfa 0 (reverse (drop (n + 1) word)) (get_or word n 0 ∷ []))
-      ∙ ap (run dfa 0) (sym (reverse_more (get_or word n 0) (drop (n + 1) word)))
+      ∙ ap (run dfa 0) (sym (reverse-append (get_or word n 0 ∷ []) (drop (n + 1) word)))
       ∙ ap (λ w. run dfa 0 (reverse w)) (sym (drop_more word n 0 within));
   state_of = state_of;
 }

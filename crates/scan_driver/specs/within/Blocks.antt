@@ -1,5 +1,5 @@
 -- Going back through a word by blocks.
-use Rattle.std.specs.Prelude.{◌≡◌, ℕ, ◌+◌, ◌-◌, ◌<◌, ◌≤◌, ◌↔◌, Bool, true, false, List, length, take, drop, reverse, get_or, IsSome}
+use Rattle.std.specs.Prelude.{◌≡◌, ℕ, ◌+◌, ◌<◌, ◌≤◌, ◌↔◌, Bool, true, false, List, length, take, drop, reverse, get_or, IsSome}
 use Rattle.rex_model.specs.Runs.{run, accepted, IsStateOf}
 use Rattle.rex_model.specs.Tables.{AreParts}
 use Rattle.scan_driver.specs.declared.cutting.Back.{Back}

@@ -1,14 +1,15 @@
--- What was found so far.
-use Rattle.std.specs.Prelude.{◌≡◌, ℕ, ◌<◌, ◌≤◌, List, length, Option, Some, None}
+-- What a run finds, and what a scan answers with it.
+use Rattle.std.specs.Prelude.{ℕ, ◌<◌, ◌≤◌, List, length, Option, Some, None}
 use Rattle.rex_model.specs.Winner.{Winner}
 use Rattle.rex_model.specs.Rules.{Rule}
 use Rattle.rex_model.specs.Tables.{GivesWinners}
 use Rattle.rex_model.specs.Tables.{Tables}
 use Rattle.rex_model.specs.declared.scan.Scan.{Scan}
 use Rattle.rex_model.specs.declared.scan.Scan.TheVariants as scan
-use Rattle.scan_driver.specs.declared.driving.Found.{Found}
+use Rattle.scan_driver.specs.declared.running.Found.{Found}
 use Rattle.rex_model.specs.declared.tables.ScanAction.{ScanAction}
 
+-- what was found, with what is accepted after len bytes
 abbrev pub found_with : Option ℕ → ℕ → Option Found → Option Found
 found_with None len found = found
 found_with (Some rule) len found = Some (record { rule = rule; len = len })

@@ -1,4 +1,5 @@
 use Rattle.std.proofs.Common.{◌≤◌}
+use Rattle.rex_model.specs.TableMeaning.{halves_of}
 use Rattle.scan_driver.specs.within.Blocks.{Cutting}
 use Rattle.scan_driver.proofs.cutting.back_through.Given as goal
 
@@ -6,7 +7,7 @@ abbrev pub invariant-loop-n : goal.invariant-loop-n
 invariant-loop-n l = record {
   from : l.begin ≤ l.n;
   upto : l.n ≤ l.end;
-  cutting : Cutting l.split l.word l.n l.state;
+  cutting : Cutting (halves_of l.split) l.word l.n l.state;
 }
 
 abbrev pub decreases-loop-n : goal.decreases-loop-n

@@ -1,0 +1,6 @@
+mod Behind
+mod Flags
+mod FurthestRuns
+mod NextOfTables
+mod RunsAlong
+mod SplitsLeft
