@@ -1,0 +1,11 @@
+pub mod CallsToCome
+mod Examples
+pub mod LabelsRead
+pub mod LastIsRoot
+pub mod LinksAgree
+pub mod NextInPostorder
+pub mod NextInPreorder
+pub mod NodeAdded
+pub mod StaysConforming
+pub mod TreeGrown
+pub mod WalkSteps

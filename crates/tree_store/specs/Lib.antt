@@ -1,0 +1,6 @@
+pub mod Conforms
+pub mod Folds
+pub mod Forest
+pub mod Linking
+pub mod Links
+pub mod Orders

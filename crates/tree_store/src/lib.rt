@@ -1,0 +1,20 @@
+//! Trees linked by parent, first child, next sibling and child number, and their walk, which is a fold.
+//!
+//! | what | file |
+//! |---|---|
+//! | nodes and their children; roots; what lies under a node | `specs/Forest.antt` |
+//! | a tree that conforms to types | `specs/Conforms.antt` |
+//! | the tree, and what each call makes of it | `src/tree.rt` |
+//! | what a walk calls; the fold | `src/visit.rt`; `specs/Folds.antt` |
+//! | preorder and postorder | `specs/Orders.antt` |
+//! | how links keep a forest | `specs/Links.antt`, `specs/Linking.antt` |
+//! | one node more over some roots | `proofs/NodeAdded.antt`, `proofs/StaysConforming.antt` |
+//! | a step of a walk, and why it ends | `proofs/WalkSteps.antt`, `proofs/LinksAgree.antt`, `proofs/CallsToCome.antt` |
+//! | the next node in each order | `proofs/NextInPreorder.antt`, `proofs/NextInPostorder.antt` |
+#![tactic(auto)]
+
+mod tree;
+mod visit;
+
+pub use tree::{AddError, Tree};
+pub use visit::Visit;
