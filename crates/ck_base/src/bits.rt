@@ -2,9 +2,9 @@ ghost use Rattle.std.specs.Prelude.{◌≡◌, ◌<◌, ◌↔◌, length, IsTru
 ghost use Rattle.ck_base.specs.BitSet.{Has, IsEmpty, Adds, Grew};
 ghost use Rattle.ck_base.specs.Words.{AreJoined, Differ, IsFit};
 
-use crate::fault::NoMemory;
 use std::alloc::Global;
 use std::marker::Model;
+use value_store::NoMemory;
 
 /// A set of numbers below its size, with one bit a number and 64 numbers a word.
 #[derive(Drop)]

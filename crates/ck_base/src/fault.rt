@@ -2,22 +2,7 @@ ghost use Rattle.std.specs.Prelude.{◌≡◌};
 ghost use Rattle.ck_base.specs.declared.fault.SpecFault.TheVariants.{NoMemory};
 
 use std::alloc::{AllocError, AllocFailed};
-
-/// Want of memory. It is the one answer without a cause: no clause says when it comes.
-#[derive(Clone, Copy, Debug, PartialEq, Eq)]
-pub struct NoMemory;
-
-impl From<AllocError> for NoMemory {
-    fn from(_: AllocError) -> NoMemory {
-        NoMemory
-    }
-}
-
-impl<T: Drop> From<AllocFailed<T>> for NoMemory {
-    fn from(_: AllocFailed<T>) -> NoMemory {
-        NoMemory
-    }
-}
+use value_store::NoMemory;
 
 /// What is wrong with a line of a specification, in the order in which faults are looked for.
 #[derive(Clone, Copy, Debug, PartialEq, Eq)]

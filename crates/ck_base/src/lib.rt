@@ -2,8 +2,8 @@
 //!
 //! | what | file |
 //! |---|---|
-//! | want of memory, faults of a specification | `src/fault.rt` |
-//! | a name; names with numbers | `src/name.rt`, `src/names.rt`; `specs/Numbered.antt` |
+//! | faults of a specification; want of memory | `src/fault.rt`; `NoMemory` of `value_store` |
+//! | names with numbers; a name | `src/names.rt`, `specs/Numbered.antt`; `Name` of `value_store` |
 //! | a set of the numbers below a size; its words | `src/bits.rt`; `specs/BitSet.antt`; `specs/Words.antt` |
 //! | sets with numbers | `src/set_numbers.rt`; `specs/Numbered.antt` |
 //! | more than so many of a kind; one of each sort | `specs/Counts.antt`; `specs/Represents.antt` |
@@ -16,17 +16,16 @@
 mod bits;
 mod fault;
 mod lines;
-mod name;
 mod names;
 mod refusal;
 mod set_numbers;
 mod status;
 
 pub use bits::Bits;
-pub use fault::{Kind, NoMemory, SpecFault};
+pub use fault::{Kind, SpecFault};
 pub use lines::{MEMORY_LINE, READ_LINE, USAGE_LINE, WRITE_LINE};
-pub use name::Name;
 pub use names::Names;
 pub use refusal::{Refusal, StateKind};
 pub use set_numbers::SetNumbers;
 pub use status::Status;
+pub use value_store::{Name, NoMemory};

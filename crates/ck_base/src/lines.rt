@@ -4,10 +4,10 @@ ghost use Rattle.std.specs.Fmt.{decimal};
 ghost use Rattle.ck_base.specs.Lines.{line_of, kind_text_of, source_line, states_text_of};
 ghost use Rattle.ck_base.specs.declared.refusal.Refusal.TheVariants.{BadSpec, LalrConflict, LlConflict, NullableRule, SpentBudget, TooManyStates, UsedUp, ZeroCycle};
 
-use crate::fault::{Kind, NoMemory};
-use crate::name::Name;
+use crate::fault::Kind;
 use crate::refusal::{Refusal, StateKind};
 use std::alloc::Global;
+use value_store::{Name, NoMemory};
 
 /// The line of wrong words, without its end.
 pub const USAGE_LINE: &[u8] =

@@ -2,8 +2,8 @@ ghost use Rattle.std.specs.Prelude.{◌≡◌};
 ghost use Rattle.ck_base.specs.Lines.{status_of};
 
 use crate::fault::Kind;
-use crate::name::Name;
 use crate::status::Status;
+use value_store::Name;
 
 /// Why a run is refused. The variants stand in the order in which they are looked for. A definition
 /// sees a name as its bytes, so equal refusals are equal values.

@@ -1,10 +1,10 @@
 ghost use Rattle.std.specs.Prelude.{◌≡◌, ℕ, ◌+◌, ◌^◌, ◌<◌, ◌↔◌, [], ◌∷◌, length, IfOk, OnOk, OnErr, IsNone, Contains, slice_get};
 ghost use Rattle.ck_base.specs.Numbered.{met, number_of};
 
-use crate::fault::NoMemory;
 use indexmap::IndexSet;
 use std::alloc::Global;
 use std::marker::Model;
+use value_store::NoMemory;
 
 /// Sets with numbers, from 0 in the order in which they were first met; no set is there twice. A set
 /// is given by its words, as `Bits::words` has them: of one size, equal sets have equal words.
