@@ -1,12 +1,9 @@
 -- How many calls of a walk are still to come: the measure by which it ends.
-use Rattle.std.proofs.Common.{◌≡◌, ℕ, ◌+◌, ◌-◌, ◌*◌, ◌<◌, ◌≤◌, List, [], ◌∷◌, ◌++◌, length, drop, map, Option, Some, None, Bool, true, false, refl, sym, ap, ◌∙◌, subst, arith, suc, zero, ◌⊎◌, inl, inr, get_or, length-append, append-nil, append_assoc}
+use Rattle.std.proofs.Common.{◌≡◌, ℕ, ◌+◌, ◌*◌, ◌<◌, List, [], ◌∷◌, ◌++◌, length, Some, Bool, true, false, refl, sym, ap, ◌∙◌, subst, arith, suc, zero, inl, inr, length-append, append-nil, append_assoc}
 use Rattle.std.proofs.lemmas.Bool.{ne_eqb}
 use Rattle.std.proofs.lemmas.Bool.Decides.{eqb_tells}
 use Rattle.std.specs.Prelude.{slice_get, slice_index, nat_eq, if◌then◌else◌}
-use Rattle.value_store.specs.declared.value.Value.{Value}
-use Rattle.tree_store.specs.declared.tree.Label.{Label}
-use Rattle.tree_store.specs.Forest.{Node, children_at, node_in, IsChild, Under, here, below}
-use Rattle.tree_store.specs.Links.{Labelled, label_of, Chain, ends, links, chain, nodes_from, Linked, IsLinkedTree}
+use Rattle.tree_store.specs.Forest.{Node, children_at, Under}
 use Rattle.tree_store.proofs.WalkSteps.{siblings}
 use Rattle.tree_store.proofs.LinksAgree.{Tied, under_le, HasParent, has_parent, first_child, next_sibling}
 

@@ -1,6 +1,6 @@
 -- Forests, folds and orders, tried on a small tree where the nearest wrong readings differ.
 use Rattle.std.proofs.Common.{◌≡◌, ℕ, List, [], ◌∷◌, ◌++◌, Bool, true, false, Some, None, refl, arith}
-use Rattle.tree_store.specs.Forest.{Node, children_at, IsChild, Under, here, below}
+use Rattle.tree_store.specs.Forest.{Node, IsChild, Under, here, below}
 use Rattle.tree_store.specs.Folds.{Folds, at_end, not_entered, stops_within, goes_on}
 use Rattle.tree_store.specs.Orders.{Preorder, no_tree, node_first, Postorder, no_tree_left, node_last, IsNext, is_last, is_before}
 

@@ -1,13 +1,13 @@
 -- The nodes that labels are, and labels after a node was added.
-use Rattle.std.proofs.Common.{◌≡◌, ℕ, ◌+◌, ◌*◌, ◌<◌, ◌≤◌, List, [], ◌∷◌, ◌++◌, length, take, drop, map, Some, refl, sym, ap, ◌∙◌, subst, arith, suc, zero, length-append, ◌⊎◌, inl, inr}
+use Rattle.std.proofs.Common.{◌≡◌, ℕ, ◌+◌, ◌<◌, ◌≤◌, List, [], ◌∷◌, ◌++◌, length, take, drop, map, Some, refl, sym, ap, ◌∙◌, arith, suc, zero, length-append, ◌⊎◌, inl, inr}
 use Rattle.std.specs.Prelude.{slice_get, slice_index, option_map}
 use Rattle.std.proofs.lemmas.List.{take-append-le, drop-append-le, take_all, length-map}
-use Rattle.std.proofs.lemmas.Option.{slice_get-map, slice_get_within}
+use Rattle.std.proofs.lemmas.Option.{slice_get-map}
 use Rattle.std.proofs.Math.Seq.{drop-append_seam}
 use Rattle.value_store.specs.declared.value.Value.{Value}
 use Rattle.tree_store.specs.declared.tree.Label.{Label}
 use Rattle.tree_store.specs.Forest.{Node, node_at}
-use Rattle.tree_store.specs.Links.{Labelled, label_of, chain, nodes_from, Linked, IsLinkedTree}
+use Rattle.tree_store.specs.Links.{Labelled, label_of, chain, nodes_from, IsLinkedTree}
 use Rattle.tree_store.proofs.LinksAgree.{length-nodes}
 
 abbrev pub node_of : List ℕ → ℕ → Labelled → Node

@@ -1,6 +1,5 @@
 -- The last node is a root, as children come before their parents.
-use Rattle.std.proofs.Common.{◌≡◌, ℕ, ◌<◌, ◌+◌, ◌-◌, List, [], ◌∷◌, length, Option, Some, None, refl, sym, ap, ◌∙◌, subst, arith, zero, suc}
-use Rattle.std.specs.Prelude.{slice_get}
+use Rattle.std.proofs.Common.{◌≡◌, ℕ, ◌<◌, ◌+◌, List, [], ◌∷◌, length, sym, subst, arith, zero, suc}
 use Rattle.tree_store.specs.Forest.{Node, IsForest, IsChild, IsRoot, OnlyRoot}
 
 child_below : (nodes : List Node) (p i c : ℕ) → IsChild nodes p i c → p < length nodes

@@ -1,8 +1,6 @@
 -- What the links of a node say of its children, its siblings and its parent.
-use Rattle.std.proofs.Common.{◌≡◌, ℕ, ◌+◌, ◌-◌, ◌*◌, ◌<◌, ◌≤◌, List, [], ◌∷◌, ◌++◌, length, drop, map, Option, Some, None, Bool, true, false, refl, sym, ap, ◌∙◌, subst, arith, suc, zero, ◌⊎◌, inl, inr, get_or, length-append, append-nil, append_assoc}
-use Rattle.std.proofs.lemmas.Bool.{ne_eqb}
-use Rattle.std.proofs.lemmas.Bool.Decides.{eqb_tells}
-use Rattle.std.specs.Prelude.{slice_get, slice_index, nat_eq, if◌then◌else◌}
+use Rattle.std.proofs.Common.{◌≡◌, ℕ, ◌+◌, ◌<◌, ◌≤◌, List, [], ◌∷◌, length, drop, map, Some, refl, sym, ap, subst, arith, suc, zero, get_or}
+use Rattle.std.specs.Prelude.{slice_get, slice_index}
 use Rattle.value_store.specs.declared.value.Value.{Value}
 use Rattle.tree_store.specs.declared.tree.Label.{Label}
 use Rattle.tree_store.specs.Forest.{Node, node_at, children_at, IsChild, Under, here, below}

@@ -1,7 +1,7 @@
 -- Where a node stands in the postorder of a tree, and what comes behind it.
-use Rattle.std.proofs.Common.{◌≡◌, ℕ, ◌+◌, ◌<◌, List, [], ◌∷◌, ◌++◌, length, drop, Some, None, refl, sym, ap, ◌∙◌, subst, arith, suc, zero, append_assoc}
+use Rattle.std.proofs.Common.{◌≡◌, ℕ, List, [], ◌∷◌, ◌++◌, drop, Some, None, refl, sym, ap, ◌∙◌, subst, arith, suc, zero, append_assoc}
 use Rattle.std.specs.Prelude.{slice_get, slice_index}
-use Rattle.tree_store.specs.Forest.{Node, children_at, IsChild, Under, here, below}
+use Rattle.tree_store.specs.Forest.{Node, children_at, Under, here, below}
 use Rattle.tree_store.specs.Orders.{Postorder, no_tree_left, node_last, IsNext, is_last, is_before}
 use Rattle.tree_store.proofs.WalkSteps.{siblings}
 use Rattle.tree_store.proofs.LinksAgree.{Tied, under_le}

@@ -1,10 +1,10 @@
 -- A forest with one more node over some of its roots, and links that agree with it again.
-use Rattle.std.proofs.Common.{◌≡◌, ℕ, ◌+◌, ◌-◌, ◌<◌, ◌≤◌, List, [], ◌∷◌, ◌++◌, length, drop, Option, Some, None, Bool, true, false, refl, sym, ap, ◌∙◌, subst, arith, suc, zero, ◌⊎◌, inl, inr, get_or, set, length-append, append-nil, append_assoc, get_or-set_same, get_or-set_other, length-set}
-use Rattle.std.specs.Prelude.{slice_get, slice_index, nat_lt, if◌then◌else◌}
+use Rattle.std.proofs.Common.{◌≡◌, ℕ, ◌+◌, ◌<◌, ◌≤◌, List, [], ◌∷◌, ◌++◌, length, drop, Some, Bool, true, false, refl, sym, ap, ◌∙◌, subst, arith, suc, zero, ◌⊎◌, inl, inr, get_or, set, length-append, get_or-set_same, get_or-set_other, length-set}
+use Rattle.std.specs.Prelude.{slice_get, slice_index, nat_lt}
 use Rattle.std.proofs.lemmas.Bool.{lt-ltb, ltb-true, ltb-false}
 use Rattle.std.proofs.lemmas.Bool.Decides.{eqb_tells}
 use Rattle.std.proofs.lemmas.Option.{slice_get_within}
-use Rattle.tree_store.specs.Forest.{Node, node_at, children_at, node_in, IsChild, AreRoots, IsForest}
+use Rattle.tree_store.specs.Forest.{Node, IsChild, AreRoots, IsForest}
 use Rattle.tree_store.specs.Links.{Labelled, Chain, ends, links, chain, nodes_from, Linked}
 use Rattle.tree_store.specs.Linking.{Linking}
 use Rattle.tree_store.proofs.LinksAgree.{drop-first, children_linked, length-nodes}

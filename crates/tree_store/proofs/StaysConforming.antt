@@ -3,7 +3,7 @@ use Rattle.std.proofs.Common.{◌≡◌, ℕ, ◌+◌, ◌<◌, List, [], ◌∷
 use Rattle.std.specs.Prelude.{slice_get}
 use Rattle.value_store.specs.declared.value.Value.{Value}
 use Rattle.ast_types.specs.TypeTable.{TypeTable, type_at}
-use Rattle.tree_store.specs.Forest.{Node, node_at, children_at, IsChild, IsForest, AreRoots}
+use Rattle.tree_store.specs.Forest.{Node, node_at, IsForest, AreRoots}
 use Rattle.tree_store.specs.Conforms.{Fits, Conforms}
 
 node_kept : (nodes : List Node) (x : Node) (n : ℕ) → n < length nodes → node_at (nodes ++ x ∷ []) n ≡ node_at nodes n

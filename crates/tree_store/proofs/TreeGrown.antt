@@ -1,5 +1,5 @@
 -- The tree after a node was added: its links agree again, and it has the new node at its end.
-use Rattle.std.proofs.Common.{◌≡◌, ℕ, ◌+◌, ◌*◌, ◌<◌, ◌≤◌, List, [], ◌∷◌, ◌++◌, length, map, refl, sym, ap, ◌∙◌, subst, arith, get_or, length-append}
+use Rattle.std.proofs.Common.{◌≡◌, ℕ, ◌+◌, ◌<◌, ◌≤◌, List, [], ◌∷◌, ◌++◌, length, map, refl, sym, ap, ◌∙◌, subst, arith, get_or, length-append}
 use Rattle.std.proofs.lemmas.List.{length-map}
 use Rattle.value_store.specs.declared.value.Value.{Value}
 use Rattle.tree_store.specs.declared.tree.Label.{Label}

@@ -1,9 +1,7 @@
 -- What is still to be called in a walk, and one step of it.
-use Rattle.std.proofs.Common.{◌≡◌, ℕ, ◌+◌, ◌-◌, ◌<◌, ◌≤◌, List, [], ◌∷◌, ◌++◌, length, drop, Option, Some, None, Bool, true, false, refl, sym, ap, ◌∙◌, subst, arith, suc, zero, ◌⊎◌, inl, inr}
-use Rattle.std.specs.Prelude.{slice_get, slice_index}
-use Rattle.tree_store.specs.Forest.{Node, children_at, IsChild}
+use Rattle.std.proofs.Common.{◌≡◌, ℕ, ◌+◌, List, [], ◌∷◌, drop, Option, Some, None, Bool, true, false, refl}
+use Rattle.tree_store.specs.Forest.{Node, children_at}
 use Rattle.tree_store.specs.Folds.{Folds, at_end, not_entered, stops_within, not_left, goes_on}
-use Rattle.tree_store.specs.Links.{Chain, ends, links}
 
 -- the siblings after a node, by its parent and its number there
 abbrev pub siblings : List Node → (ℕ → ℕ) → (ℕ → ℕ) → ℕ → List ℕ

@@ -1,4 +1,4 @@
-use Rattle.std.proofs.Common.{◌≡◌, ◌<◌, refl, arith, length, ap, sym, ◌∙◌, subst}
+use Rattle.std.proofs.Common.{refl, arith, length, ap, sym, ◌∙◌, subst}
 use Rattle.std.proofs.lemmas.List.{length-map}
 use Rattle.tree_store.specs.Conforms.{Conforms}
 use Rattle.tree_store.specs.Links.{label_of}

@@ -1,4 +1,4 @@
-use Rattle.std.proofs.Common.{◌≡◌, ◌<◌, ◌+◌, arith, ap, ◌∙◌, sym, subst, refl, length, drop}
+use Rattle.std.proofs.Common.{◌≡◌, ◌+◌, arith, ap, ◌∙◌, sym, subst, refl, length, drop}
 use Rattle.std.specs.Prelude.{slice_index}
 use Rattle.tree_store.specs.Forest.{children_at}
 use Rattle.tree_store.specs.Links.{Chain}

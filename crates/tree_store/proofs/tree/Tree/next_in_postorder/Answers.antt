@@ -1,4 +1,4 @@
-use Rattle.std.proofs.Common.{◌≡◌, ◌<◌, arith, ap, ◌∙◌, sym, subst, length, Some}
+use Rattle.std.proofs.Common.{arith, ap, ◌∙◌, sym, subst, length, Some}
 use Rattle.std.specs.Prelude.{slice_get, slice_index}
 use Rattle.tree_store.specs.Orders.{IsNext}
 use Rattle.tree_store.proofs.LinksAgree.{tied_now, under_within, first_some, first_none, has_parent, next_some, next_none, next_sibling}

@@ -1,4 +1,4 @@
-use Rattle.std.proofs.Common.{◌≡◌, arith, ap, ◌∙◌, sym, subst, length}
+use Rattle.std.proofs.Common.{arith, ap, ◌∙◌, sym, subst, length}
 use Rattle.std.specs.Prelude.{slice_index}
 use Rattle.tree_store.specs.Forest.{Under}
 use Rattle.tree_store.proofs.LinksAgree.{tied_now, under_within, under_le, first_some, first_none, has_parent, next_some, next_none}

@@ -1,4 +1,4 @@
-use Rattle.std.proofs.Common.{◌≡◌, arith, ap, ◌∙◌, refl, length}
+use Rattle.std.proofs.Common.{arith, ap, ◌∙◌, refl, length}
 use Rattle.std.specs.Prelude.{slice_index}
 use Rattle.tree_store.proofs.LinksAgree.{tied_now, is_within}
 use Rattle.tree_store.proofs.NodeAdded.{child_by}

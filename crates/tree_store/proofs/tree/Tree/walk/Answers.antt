@@ -1,8 +1,8 @@
-use Rattle.std.proofs.Common.{◌≡◌, ℕ, ◌<◌, length, [], ◌∷◌, arith, refl, sym, ap, ◌∙◌, subst, Some, None, true, false}
+use Rattle.std.proofs.Common.{◌≡◌, arith, refl}
 use Rattle.std.specs.Prelude.{slice_index}
 use Rattle.tree_store.specs.Forest.{here}
 use Rattle.tree_store.specs.Folds.{not_entered}
-use Rattle.tree_store.proofs.WalkSteps.{Onward, stops_under, on_after, stops_leaving, on_leaving, top, turn_bare, turn_down, turn_next, turn_up, from_start}
+use Rattle.tree_store.proofs.WalkSteps.{stops_under, stops_leaving, on_leaving, top, turn_bare, turn_down, turn_next, turn_up, from_start}
 use Rattle.tree_store.proofs.LinksAgree.{tied_now, first_some, first_none, next_some, next_none, first_child, next_sibling, has_parent, under_within, index_is}
 use Rattle.tree_store.proofs.CallsToCome.{less_down, less_bare, less_next, less_up}
 use Rattle.tree_store.proofs.tree.Tree.walk.Goals as goal

@@ -1,4 +1,4 @@
-use Rattle.std.proofs.Common.{◌≡◌, ℕ, ◌<◌, length, [], ◌∷◌, Option}
+use Rattle.std.proofs.Common.{ℕ, ◌<◌, length, [], ◌∷◌, Option}
 use Rattle.std.specs.Prelude.{slice_index}
 use Rattle.tree_store.specs.Forest.{Under}
 use Rattle.tree_store.specs.Folds.{Folds}
