@@ -139,8 +139,8 @@ impl Types {
         self.families.len() as u32
     }
 
-    /// How many types there are. A base stands before each type that extends it, has its family, and
-    /// its items are the first ones of that type.
+    /// How many types there are. A base stands before each type that extends it, has its family,
+    /// and its items are the first ones of that type.
     pub fn len(&self) -> u32
         requires { length self.now.types < 2 ^ 32 }
         ensures is { result ≡ length self.now.types }

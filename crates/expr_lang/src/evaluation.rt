@@ -10,8 +10,8 @@ use crate::expr::{Expr, Op};
 use crate::operators::{bool_of, join, negate, negated};
 use value_store::{Cells, NoMemory, Text, Texts, Value};
 
-/// The value of the expression, where `env` has the values of the variables. Token n has its text and
-/// its line and column in `spans` and `places`. After an error the store may have further cells.
+/// The value of the expression, where `env` has the values of the variables. Token n has its text
+/// and its line and column in `spans` and `places`. After an error the store may have more cells.
 #[cycle(eval)]
 pub fn eval(
     e: &Expr,

@@ -1,6 +1,7 @@
 use value_store::{Text, ValType};
 
-/// The operators `||`, `&&`, `==`, `!=`, `<`, `<=`, `>`, `>=`, `+`, `-`, `*`, `/` and `%`, in this order.
+/// The operators `||`, `&&`, `==`, `!=`, `<`, `<=`, `>`, `>=`, `+`, `-`, `*`, `/` and `%`, in this
+/// order.
 #[derive(Clone, Copy)]
 pub enum Op {
     Or,
@@ -18,7 +19,8 @@ pub enum Op {
     Remainder,
 }
 
-/// The functions `text`, `line`, `col`, `int`, `empty`, `put`, `get`, `has` and `size`, in this order.
+/// The functions `text`, `line`, `col`, `int`, `empty`, `put`, `get`, `has` and `size`, in this
+/// order.
 #[derive(Clone, Copy)]
 pub enum Function {
     Text,

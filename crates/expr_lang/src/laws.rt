@@ -10,7 +10,8 @@ ghost use Rattle.value_store.specs.declared.value.ValType.{ValType};
 
 /// Law: an expression has one type at most.
 pub fn one_type_at_most()
-    ensures { (c : Context) (e : Expression) (t u : ValType) → HasType c e t → HasType c e u → t ≡ u }
+    ensures { (c : Context) (e : Expression) (t u : ValType)
+        → HasType c e t → HasType c e u → t ≡ u }
 {}
 
 /// Law: the value of a typed expression is of its type, where the variables' values are of theirs.

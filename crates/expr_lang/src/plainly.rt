@@ -15,8 +15,8 @@ use crate::expr::{Expr, Function};
 use crate::operators::{bool_of, int_of, join, negate, negated};
 use value_store::{Texts, Value};
 
-/// The value of an expression that is an int, a bool or a text, and whose variables are such too, from
-/// the syntax alone: a map is looked up along its `put`s, without a store and without memory.
+/// The value of an expression that is an int, a bool or a text, and whose variables are such too,
+/// from the syntax alone: a map is looked up along its `put`s, without a store and without memory.
 #[cycle(plain)]
 pub fn plain(e: &Expr, env: &[Value], texts: &Texts) -> Value
     requires { Plain env.now (meant texts.now e.now) }

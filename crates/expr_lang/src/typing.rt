@@ -7,8 +7,8 @@ ghost use Rattle.value_store.specs.declared.value.ValType.TheVariants as ty;
 use crate::expr::{Expr, Function, Maker, Op, Scope};
 use value_store::ValType;
 
-/// The type of the expression in the scope; None exactly where it has none. Whatever texts its strings
-/// lie in and whichever families are of the source tree, the answer is the same.
+/// The type of the expression in the scope; None exactly where it has none. Whatever texts its
+/// strings lie in and whichever families are of the source tree, the answer is the same.
 #[cycle(typed)]
 pub fn typed(e: &Expr, scope: &Scope) -> Option<ValType>
     ensures { (source literals : List ℕ) (sources : ℕ → Bool)
@@ -89,8 +89,9 @@ fn is_typed(e: &Expr, scope: &Scope, wanted: ValType) -> bool
 /// Whether the arguments have the types.
 #[cycle(typed)]
 fn are_typed(args: &[Expr], scope: &Scope, wanted: &[ValType]) -> bool
-    ensures { (source literals : List ℕ) (sources : ℕ → Bool) → IsTrue result ↔ HaveTypes
-        (context_of scope.now sources) (expressions_of (map (meaning source literals) args.now)) wanted.now }
+    ensures { (source literals : List ℕ) (sources : ℕ → Bool) → IsTrue result
+        ↔ HaveTypes (context_of scope.now sources)
+        (expressions_of (map (meaning source literals) args.now)) wanted.now }
 {
     if args.len() != wanted.len() {
         return false;

@@ -5,7 +5,8 @@ ghost use Rattle.expr_lang.specs.Meaning.{meaning, expressions_of};
 use crate::expr::{Expr, Function};
 
 /// How many units of a store one evaluation takes at most, with all branches counted: one for each
-/// `put`, one for each maker and one for each of its arguments. The greatest u64 where there are more.
+/// `put`, one for each maker and one for each of its arguments. The greatest u64 where there are
+/// more.
 #[cycle(units)]
 pub fn units(e: &Expr) -> u64
     ensures { (source literals : List ℕ)
@@ -31,7 +32,8 @@ pub fn units(e: &Expr) -> u64
 #[cycle(units)]
 fn units_all(args: &[Expr]) -> u64
     ensures { (source literals : List ℕ) → result
-        ≡ min (units_of_all (expressions_of (map (meaning source literals) args.now))) 18446744073709551615 }
+        ≡ min (units_of_all (expressions_of (map (meaning source literals) args.now)))
+        18446744073709551615 }
 {
     let mut sum: u64 = 0;
     for e in args {

@@ -1,4 +1,4 @@
-//! Trees linked by parent, first child, next sibling and child number, and their walk, which is a fold.
+//! Trees linked by parent, first child, next sibling and child number. Their walk is a fold.
 //!
 //! | what | file |
 //! |---|---|
@@ -8,7 +8,8 @@
 //! | what a walk calls; the fold | `src/visit.rt`; `specs/Folds.antt` |
 //! | preorder and postorder | `specs/Orders.antt` |
 //! | how links keep a forest | `specs/Links.antt`, `specs/Linking.antt` |
-//! | one node more over some roots | `proofs/NodeAdded.antt`, `proofs/StaysConforming.antt` |
+//! | one node more over some roots | `proofs/NodeAdded.antt`, `proofs/LabelsRead.antt`, `proofs/TreeGrown.antt` |
+//! | a conforming tree stays so; the last node is a root | `proofs/StaysConforming.antt`, `proofs/LastIsRoot.antt` |
 //! | a step of a walk, and why it ends | `proofs/WalkSteps.antt`, `proofs/LinksAgree.antt`, `proofs/CallsToCome.antt` |
 //! | the next node in each order | `proofs/NextInPreorder.antt`, `proofs/NextInPostorder.antt` |
 #![tactic(auto)]

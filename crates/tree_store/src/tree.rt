@@ -36,8 +36,8 @@ pub struct Label {
 }
 
 /// Trees of nodes, which are numbered from 0 in the order in which they were added, children before
-/// their parent. Each node has the links to its parent, its first child and its next sibling, and its
-/// number among the children of its parent.
+/// their parent. Each node has the links to its parent, its first child and its next sibling, and
+/// its number among the children of its parent.
 #[derive(Drop)]
 pub struct Tree {
     labels: Vec<Label>,
@@ -198,12 +198,13 @@ impl Tree {
         value_at(self.fields.as_slice(), start as usize + i as usize)
     }
 
-    /// The node that stands behind this one in the preorder of the tree under `root`; none where this
-    /// one is the last.
+    /// The node that stands behind this one in the preorder of the tree under `root`; none where
+    /// this one is the last.
     pub fn next_in_preorder(&self, root: u32, node: u32) -> Option<u32>
         requires root { root < length self.now }
         requires under { Under self.now root node }
-        ensures { (order : List ℕ) → Preorder self.now (root ∷ []) order → IsNext order node result }
+        ensures { (order : List ℕ)
+            → Preorder self.now (root ∷ []) order → IsNext order node result }
     {
         let firsts = self.firsts.as_slice();
         let first = link_at(firsts, node as usize);
@@ -223,12 +224,13 @@ impl Tree {
         None
     }
 
-    /// The node that stands behind this one in the postorder of the tree under `root`; none where this
-    /// one is the last, which is `root`.
+    /// The node that stands behind this one in the postorder of the tree under `root`; none where
+    /// this one is the last, which is `root`.
     pub fn next_in_postorder(&self, root: u32, node: u32) -> Option<u32>
         requires root { root < length self.now }
         requires under { Under self.now root node }
-        ensures { (order : List ℕ) → Postorder self.now (root ∷ []) order → IsNext order node result }
+        ensures { (order : List ℕ)
+            → Postorder self.now (root ∷ []) order → IsNext order node result }
     {
         let firsts = self.firsts.as_slice();
         let nexts = self.nexts.as_slice();
@@ -251,8 +253,8 @@ impl Tree {
         Some(at)
     }
 
-    /// Visits the nodes under `root`: each one is entered, then its children are visited in order, then
-    /// it is left. Gives the node at which a call answered false; none where all calls answered true.
+    /// Visits the nodes under `root`: each one is entered, then its children are visited in order,
+    /// then it is left. Gives the node at which a call answered false; none where all answered true.
     pub fn walk<V: Visit>(&self, root: u32, visitor: &mut V) -> Option<u32>
         requires root { root < length self.now }
         requires ready { V.ready self.now visitor.old }
@@ -332,9 +334,12 @@ fn link(
     children: &[u32],
     node: u32,
 )
-    requires parents { (k c : ℕ) → slice_get children.now k ≡ Some c → c < length parents.old.items }
-    requires numbers { (k c : ℕ) → slice_get children.now k ≡ Some c → c < length numbers.old.items }
-    requires nexts { (k c : ℕ) → slice_get children.now k ≡ Some c → c < length nexts.old.items }
+    requires parents { (k c : ℕ)
+        → slice_get children.now k ≡ Some c → c < length parents.old.items }
+    requires numbers { (k c : ℕ)
+        → slice_get children.now k ≡ Some c → c < length numbers.old.items }
+    requires nexts { (k c : ℕ)
+        → slice_get children.now k ≡ Some c → c < length nexts.old.items }
     requires few { length children.now ≤ 8 }
     requires differ { (j k c : ℕ)
         → slice_get children.now j ≡ Some c → slice_get children.now k ≡ Some c → j ≡ k }

@@ -153,7 +153,8 @@ impl Cells {
     /// The cell of the child at this place; places count from 0.
     pub fn child(&self, cell: u64, i: u32) -> u64
         requires made { IsMade (cells_of self.now.units) cell }
-        requires within { IsSome (child_at (children_of (tree_at (cells_of self.now.units) cell)) i) }
+        requires within { IsSome (child_at
+            (children_of (tree_at (cells_of self.now.units) cell)) i) }
         ensures made { IsMade (cells_of self.now.units) result }
         ensures is { child_at (children_of (tree_at (cells_of self.now.units) cell)) i
             ≡ Some (tree_at (cells_of self.now.units) result) }
@@ -187,7 +188,8 @@ impl Cells {
     /// How many nodes these trees have with one node above them; 1,048,577 where there are more.
     fn nodes_with(&self, children: &[u64]) -> u32
         requires { AreMade (cells_of self.now.units) children.now }
-        ensures { result ≡ min (node_count_all (trees_at (cells_of self.now.units) children.now) + 1) 1048577 }
+        ensures { result ≡ min
+            (node_count_all (trees_at (cells_of self.now.units) children.now) + 1) 1048577 }
     {
         let mut nodes: u32 = 1;
         for child in children {
@@ -199,8 +201,8 @@ impl Cells {
     /// The number of the first pair with these bytes.
     fn find(&self, texts: &Texts, m: u64, wanted: &[u8]) -> Option<i64>
         requires { IsMap (cells_of self.now.units) m }
-        ensures { result ≡ first_with wanted.now (entries texts.now.source.now texts.now.literals.now
-            (pairs_at (cells_of self.now.units) m)) }
+        ensures { result ≡ first_with wanted.now
+            (entries texts.now.source.now texts.now.literals.now (pairs_at (cells_of self.now.units) m)) }
     {
         let mut at = m;
         while at != 0 {
