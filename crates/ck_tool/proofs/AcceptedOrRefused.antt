@@ -1,80 +1,101 @@
--- A specification is accepted or refused: it can't be neither.
-use Rattle.std.proofs.Common.{◌≡◌, ℕ, inl, inr, List, [], ◌∷◌, ◌++◌, length, refl, ap}
-use Rattle.std.proofs.lemmas.Bool.{cases_lt}
+-- A specification is accepted, with its scan rules, or refused in one way.
+use Rattle.std.proofs.Common.{◌≡◌, ℕ, ◌+◌, List, length, Option, None, Some, refl, sym, ap, ◌∙◌, arith}
 use Rattle.ck_base.specs.Found.{HasNo}
-use Rattle.ck_base.specs.declared.fault.Kind.TheVariants.{Section, Syntax}
-use Rattle.ck_base.specs.declared.refusal.Refusal.TheVariants.{SpecTooLong, BadSpec}
-use Rattle.ck_tool.specs.Accepts.{RefusesSpec, too_long, faulty, Accepts}
-use Rattle.ck_tool.specs.Declares.{RuleLines, no_lines, one_more, FirstWithoutShape, of_sections, of_shape, declared_rules}
-use Rattle.ck_tool.specs.NumberedLines.{NumberedLine, lines_of, past_lines}
-use Rattle.ck_tool.specs.Sections.{IsRex, IsEnd, NoneIsEnd, AreSections, SectionFault, nothing, not_rex, no_end, after_end}
+use Rattle.ck_base.specs.declared.fault.Kind.{Kind}
+use Rattle.ck_base.specs.declared.fault.Kind.TheVariants as kind
+use Rattle.ck_base.specs.declared.refusal.Refusal.{Refusal}
+use Rattle.ck_base.specs.declared.refusal.Refusal.TheVariants as refusal
+use Rattle.rex_model.specs.Rules.{Rules}
+use Rattle.rex_dfa.specs.Faults.{IsDfaFault, nullable, scanner, split, memory}
+use Rattle.rex_dfa.specs.declared.fault.DfaError.{DfaError}
+use Rattle.rex_dfa.specs.declared.fault.DfaError.TheVariants as fault
+use Rattle.spec_text.specs.Promise.{FirstSectionFault, IsFirstOther}
+use Rattle.spec_text.proofs.OneSections.{one_fault_line, none_beside}
+use Rattle.spec_text.proofs.Others.{one_other}
+use Rattle.front_spec.specs.Promise.{DeclaresRules, FirstRexFault}
+use Rattle.front_spec.proofs.OneRex.{one_rex, one_rex_fault, rex_not_fault}
+use Rattle.ck_tool.specs.Accepts.{Fault, of_sections, of_rex, refusal_of, HaveTables, built, RefusesSpec, too_long, faulty, no_tables, unbuilt, Accepts}
 
--- where END isn't missing there is a first one
-some_first_end : (lines : List NumberedLine) → (NoneIsEnd lines → ⊥)
-    → ((before : List NumberedLine) (line : NumberedLine) (after : List NumberedLine) → lines ≡ before ++ line ∷ after → NoneIsEnd before → IsEnd line → ⊥)
-    → ⊥
-some_first_end [] some none = some tt
-some_first_end (line ∷ lines) some none =
-    let not_end = λ (is : IsEnd line). none [] line lines refl tt is in
-    some_first_end lines (λ rest. some (not_end, rest))
-    (λ before last after at fronts is. none (line ∷ before) last after (ap (λ all. line ∷ all) at) (not_end, fronts) is)
+-- a section fault leaves no rules
+no_rules : (spec : List ℕ) (rules : Rules) (line : ℕ) → DeclaresRules spec rules → FirstSectionFault spec line → ⊥
+no_rules spec rules line declares first =
+    none_beside spec declares.section.lines declares.section.parts line declares.section.sections first
 
--- the sections stand as they must, or there is a fault
-some_sections : (past : ℕ) (lines : List NumberedLine) → HasNo (AreSections lines) → HasNo (SectionFault past lines) → ⊥
-some_sections past [] none no_fault = no_fault past (nothing refl)
-some_sections past (first ∷ rest) none no_fault = no_fault first.number (not_rex first rest refl (λ is_rex.
-    some_first_end rest (λ none_is_end. no_fault past (no_end first rest refl is_rex none_is_end)) (λ before last after at fronts is_end.
-    no_fault_behind before last after is_rex at fronts is_end)))
-  where
-    no_fault_behind : (before : List NumberedLine) (last : NumberedLine) (after : List NumberedLine) → IsRex first → rest ≡ before ++ last ∷ after
-        → NoneIsEnd before → IsEnd last → ⊥
-    no_fault_behind before last [] is_rex at fronts is_end = none before (record {
-      first = first;
-      last = last;
-      are_lines = ap (λ all. first ∷ all) at;
-      is_rex = is_rex;
-      none_is_end = fronts;
-      is_end = is_end;
-    })
-    no_fault_behind before last (next ∷ more) is_rex at fronts is_end =
-        no_fault next.number (after_end first last next before more (ap (λ all. first ∷ all) at) is_rex fronts is_end)
+-- nor does any first fault
+rules_or_fault : (spec : List ℕ) (rules : Rules) (line : ℕ) (k : Kind) → DeclaresRules spec rules → Fault spec line k → ⊥
+rules_or_fault spec rules _ _ declares (of_sections line first) = no_rules spec rules line declares first
+rules_or_fault spec rules _ _ declares (of_rex line k first) = rex_not_fault spec rules line k declares first
 
--- each line declares a rule, or there is a first one that doesn't
-some_rules : (lines : List NumberedLine) → HasNo (RuleLines lines) → HasNo (FirstWithoutShape lines) → ⊥
-some_rules [] none no_fault = none [] no_lines
-some_rules (line ∷ lines) none no_fault = no_fault line.number (record {
-  before = [];
-  line = line;
-  after = lines;
-  rules = [];
-  are_lines = refl;
-  declare = no_lines;
-  has_none = λ rule is. some_rules lines (λ rules declare. none (rule ∷ rules) (one_more line lines rule rules is declare)) (λ number first.
-      no_fault number (record {
-        before = line ∷ first.before;
-        line = first.line;
-        after = first.after;
-        rules = rule ∷ first.rules;
-        are_lines = ap (λ all. line ∷ all) first.are_lines;
-        declare = one_more line first.before rule first.rules is first.declare;
-        has_none = first.has_none;
-        is_number = first.is_number;
-      }));
-  is_number = refl;
-})
+one_fault : (spec : List ℕ) (line other : ℕ) (k j : Kind) → Fault spec line k → Fault spec other j → (line ≡ other) × (k ≡ j)
+one_fault spec _ _ _ _ (of_sections line first) (of_sections other second) = (one_fault_line spec line other first second, refl)
+one_fault spec _ _ _ _ (of_sections line first) (of_rex other j second) =
+    absurd (none_beside spec second.section.lines second.section.parts line second.section.sections first)
+one_fault spec _ _ _ _ (of_rex line k first) (of_sections other second) =
+    absurd (none_beside spec first.section.lines first.section.parts other first.section.sections second)
+one_fault spec _ _ _ _ (of_rex line k first) (of_rex other j second) = one_rex_fault spec line other k j first second
 
-pub accepted_or_refused : (spec : List ℕ) → HasNo (RefusesSpec spec) → HasNo (Accepts spec) → ⊥
-accepted_or_refused spec not_refused not_accepted = elim (cases_lt 1048576 (length spec)) [
-  | inl longer ↦ not_refused SpecTooLong (too_long longer)
-  | inr fits ↦ some_sections (past_lines spec) (lines_of spec) (λ between sections. some_rules between
-      (λ rules declare. not_accepted (declared_rules rules) (record {
-        fits = fits;
-        declares = record {
-          declared = rules;
-          by_lines = record { between = between; sections = sections; are_rules = declare };
-          are_rules = refl;
-        };
-      }))
-      (λ number first. not_refused (BadSpec number Syntax) (faulty fits number Syntax (of_shape between number sections first))))
-      (λ number fault. not_refused (BadSpec number Section) (faulty fits number Section (of_sections number fault)))
-]
+-- rules have tables, or not for one reason
+one_reason : (rules : Rules) (these those : DfaError) (r s : Refusal) → IsDfaFault rules these → IsDfaFault rules those
+    → refusal_of these ≡ Some r → refusal_of those ≡ Some s → r ≡ s
+one_reason rules _ _ r s (nullable i first) (nullable j second) is is2 =
+    let least = first.first j second.here in
+    let same = second.first i first.here in
+    let numbers : i ≡ j = omega arith in
+    cc
+one_reason rules _ _ r s (nullable i first) (scanner none more) is is2 = absurd (none i first.here)
+one_reason rules _ _ r s (nullable i first) (split none few more) is is2 = absurd (none i first.here)
+one_reason rules _ _ r s (scanner none more) (nullable j second) is is2 = absurd (none j second.here)
+one_reason rules _ _ r s (scanner none more) (scanner none2 more2) is is2 = cc
+one_reason rules _ _ r s (scanner none more) (split none2 few more2) is is2 = absurd (few more)
+one_reason rules _ _ r s (split none few more) (nullable j second) is is2 = absurd (none j second.here)
+one_reason rules _ _ r s (split none few more) (scanner none2 more2) is is2 = absurd (few more2)
+one_reason rules _ _ r s (split none few more) (split none2 few2 more2) is is2 = cc
+one_reason rules _ _ r s (memory) second is is2 = cc
+one_reason rules _ _ r s first (memory) is is2 = cc
+
+tables_or_reason : (rules : Rules) (error : DfaError) (r : Refusal) → HaveTables rules → IsDfaFault rules error → refusal_of error ≡ Some r → ⊥
+tables_or_reason rules _ r have (nullable i first) is = have.bodies i first.here
+tables_or_reason rules _ r have (scanner none more) is = have.scanner more
+tables_or_reason rules _ r have (split none few more) is = have.splits more
+tables_or_reason rules _ r have (memory) is = cc
+
+-- a specification is refused in one way
+pub one_refusal : (spec : List ℕ) (r s : Refusal) → RefusesSpec spec r → RefusesSpec spec s → r ≡ s
+one_refusal spec _ _ (too_long longer) (too_long longer2) = refl
+one_refusal spec _ _ (too_long longer) (faulty fits line k first) = absurd (omega arith)
+one_refusal spec _ _ (too_long longer) (no_tables fits rules error r declares is told) = absurd (omega arith)
+one_refusal spec _ _ (too_long longer) (unbuilt fits rules line declares have first) = absurd (omega arith)
+one_refusal spec _ _ (faulty fits line k first) (too_long longer) = absurd (omega arith)
+one_refusal spec _ _ (faulty fits line k first) (faulty fits2 line2 k2 first2) =
+    let (lines, kinds) = one_fault spec line line2 k k2 first first2 in
+    cc
+one_refusal spec _ _ (faulty fits line k first) (no_tables fits2 rules error r declares is told) =
+    absurd (rules_or_fault spec rules line k declares first)
+one_refusal spec _ _ (faulty fits line k first) (unbuilt fits2 rules line2 declares have other) =
+    absurd (rules_or_fault spec rules line k declares first)
+one_refusal spec _ _ (no_tables fits rules error r declares is told) (too_long longer) = absurd (omega arith)
+one_refusal spec _ _ (no_tables fits rules error r declares is told) (faulty fits2 line k first) =
+    absurd (rules_or_fault spec rules line k declares first)
+one_refusal spec _ _ (no_tables fits rules error r declares is told) (no_tables fits2 rules2 error2 s declares2 is2 told2) =
+    one_reason rules2 error error2 r s (rw one_rex spec rules rules2 declares declares2 at is) is2 told told2
+one_refusal spec _ _ (no_tables fits rules error r declares is told) (unbuilt fits2 rules2 line declares2 have other) =
+    absurd (tables_or_reason rules2 error r have (rw one_rex spec rules rules2 declares declares2 at is) told)
+one_refusal spec _ _ (unbuilt fits rules line declares have other) (too_long longer) = absurd (omega arith)
+one_refusal spec _ _ (unbuilt fits rules line declares have other) (faulty fits2 line2 k first) =
+    absurd (rules_or_fault spec rules line2 k declares first)
+one_refusal spec _ _ (unbuilt fits rules line declares have other) (no_tables fits2 rules2 error r declares2 is told) =
+    absurd (tables_or_reason rules error r have (rw one_rex spec rules2 rules declares2 declares at is) told)
+one_refusal spec _ _ (unbuilt fits rules line declares have other) (unbuilt fits2 rules2 line2 declares2 have2 other2) =
+    ap (λ n. refusal.BadSpec n kind.Syntax) (one_other spec built line line2 other other2)
+
+-- or accepted
+pub refused_or_accepted : (spec : List ℕ) (r : Refusal) (rules : Rules) → RefusesSpec spec r → Accepts spec rules → ⊥
+refused_or_accepted spec _ rules (too_long longer) accepts = omega (arith, accepts.fits)
+refused_or_accepted spec _ rules (faulty fits line k first) accepts = rules_or_fault spec rules line k accepts.declares first
+refused_or_accepted spec _ rules (no_tables fits rules2 error r declares is told) accepts =
+    tables_or_reason rules error r accepts.tables (rw one_rex spec rules2 rules declares accepts.declares at is) told
+refused_or_accepted spec _ rules (unbuilt fits rules2 line declares have other) accepts = accepts.all_built line other
+
+-- with the same scan rules
+pub one_meaning : (spec : List ℕ) (these those : Rules) → Accepts spec these → Accepts spec those → these ≡ those
+one_meaning spec these those a b = one_rex spec these those a.declares b.declares

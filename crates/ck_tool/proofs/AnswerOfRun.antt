@@ -4,23 +4,20 @@ use Rattle.std.specs.Prelude.{replicate, IsErrAnd}
 use Rattle.std.specs.Global.{Global}
 use Rattle.std.proofs.lemmas.List.{length-replicate}
 use Rattle.std.proofs.lemmas.Option.{IfSome_then}
-use Rattle.ck_base.specs.declared.fault.SpecFault.{SpecFault}
-use Rattle.ck_base.specs.declared.fault.SpecFault.TheVariants as fault
 use Rattle.ck_base.specs.declared.refusal.Refusal.{Refusal}
 use Rattle.ck_base.specs.declared.refusal.Refusal.TheVariants as refusal
 use Rattle.ck_io.specs.Contents.{IsTold, IsLonger}
 use Rattle.ck_io.specs.Faults.{Rose}
 use Rattle.rex_model.specs.Rules.{Rules}
-use Rattle.ck_tool.specs.Accepts.{RefusesSpec, faulty, Accepts}
+use Rattle.ck_tool.specs.Accepts.{RefusesSpec, Accepts}
 use Rattle.ck_tool.specs.Outcome.{Outcome, refused, Makes, AnswerOf, makes}
 use Rattle.ck_tool.specs.Wanted.{Settles, by_words, by_spec, by_source, no_files, one_more, Wanted, Reads, names_in}
 use Rattle.ck_tool.specs.Words.{AreOfStage, AreRight, of_stage}
-use Rattle.ck_tool.specs.within.RulesOfLines.{IsFaultOf}
-use Rattle.ck_tool.specs.within.Stops.{IsStopOfRead, Meets, answer_in, stop_of}
+use Rattle.ck_tool.specs.within.Stops.{IsStopOfRead, IsStopOfSpec, Meets, answer_in}
 use Rattle.ck_tool.specs.declared.stage.Stage.{Stage}
 use Rattle.ck_tool.specs.declared.stop.Stop.{Stop}
 use Rattle.ck_tool.specs.declared.stop.Stop.TheVariants.{Refused, ReadFault, NoMemory}
-use Rattle.ck_tool.proofs.OneOutcome.{refused_or_accepted}
+use Rattle.ck_tool.proofs.AcceptedOrRefused.{refused_or_accepted}
 
 -- a file that has more bytes than the limit may hold some so long
 longer_bytes : (told : Option (List ℕ)) (limit : ℕ) → IsLonger told limit → (bytes : List ℕ) × IsTold told bytes × (limit < length bytes)
@@ -121,12 +118,13 @@ module _ (contents : List ℕ → Option (List ℕ)) (words : List (List ℕ)) (
       (λ bytes told longer. wanted_of_spec contents words stage spec_name source_name are bytes refusal.SpecTooLong told (RefusesSpec.too_long (omega arith)))
       fails is
 
-  -- the specification has a fault
-  pub stop_at_fault : (failed : Type 0) (spec : List ℕ) (found : SpecFault) → IsTold (contents spec_name) spec → length spec ≤ 1048576 → IsFaultOf spec found
-      → Meets (Wanted contents words) failed (Err (stop_of found))
-  stop_at_fault failed spec (fault.Bad line kind) told fits is =
-      (wanted_of_spec contents words stage spec_name source_name are spec (refusal.BadSpec line kind) told (faulty fits line kind is), λ same. cc)
-  stop_at_fault failed spec fault.NoMemory told fits is = (tt, λ same. cc)
+  -- the specification is refused
+  pub stop_at_refusal : (failed : Type 0) (spec : List ℕ) (stop : Stop) → IsTold (contents spec_name) spec → IsStopOfSpec spec stop
+      → Meets (Wanted contents words) failed (Err stop)
+  stop_at_refusal failed spec (Refused r) told refuses =
+      (wanted_of_spec contents words stage spec_name source_name are spec r told refuses, λ same. cc)
+  stop_at_refusal failed spec ReadFault told never = absurd never
+  stop_at_refusal failed spec NoMemory told free = (tt, λ same. cc)
 
   module _ (spec : List ℕ) (rules : Rules) (told : IsTold (contents spec_name) spec) (accepts : Accepts spec rules) where
     -- the source wasn't read

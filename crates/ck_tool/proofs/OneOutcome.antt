@@ -8,35 +8,13 @@ use Rattle.rex_model.specs.Place.{line_at, column_at}
 use Rattle.rex_model.specs.Run.{finished, bad_at}
 use Rattle.rex_model.specs.Rules.{Rules}
 use Rattle.rex_model.proofs.OneRun.{one_run}
-use Rattle.ck_tool.specs.Accepts.{RefusesSpec, too_long, faulty, Accepts}
-use Rattle.ck_tool.specs.Declares.{declared_rules}
 use Rattle.ck_tool.specs.Outcome.{Outcome, output, refused, Scanning, bad_token, printed, Makes, AnswerOf, makes}
 use Rattle.ck_tool.specs.TokenText.{tokens_text}
 use Rattle.ck_tool.specs.Wanted.{Settles, by_words, by_spec, by_source, names_in, Hold, no_files, one_more, Wanted, Reads, AreTold}
 use Rattle.ck_tool.specs.Words.{AreOfStage, of_stage, name_of}
 use Rattle.ck_tool.specs.declared.stage.Stage.{Stage}
 use Rattle.ck_tool.specs.declared.stage.Stage.TheVariants as stages
-use Rattle.ck_tool.proofs.OneFault.{one_fault, no_fault, one_declaration}
-
--- a specification is refused in one way
-one_refusal : (spec : List ℕ) (r s : Refusal) → RefusesSpec spec r → RefusesSpec spec s → r ≡ s
-one_refusal spec _ _ (too_long longer) (too_long longer2) = refl
-one_refusal spec _ _ (too_long longer) (faulty fits line kind fault) = absurd (omega arith)
-one_refusal spec _ _ (faulty fits line kind fault) (too_long longer) = absurd (omega arith)
-one_refusal spec _ _ (faulty fits line kind fault) (faulty fits2 line2 kind2 fault2) =
-    let (lines, kinds) = one_fault spec line line2 kind kind2 fault fault2 in
-    cc
-
--- or accepted
-pub refused_or_accepted : (spec : List ℕ) (r : Refusal) (rules : Rules) → RefusesSpec spec r → Accepts spec rules → ⊥
-refused_or_accepted spec _ rules (too_long longer) accepts = omega (arith, accepts.fits)
-refused_or_accepted spec _ rules (faulty fits line kind fault) accepts = no_fault spec accepts.declares.declared line kind accepts.declares.by_lines fault
-
--- a specification declares the same scan rules
-one_meaning : (spec : List ℕ) (these those : Rules) → Accepts spec these → Accepts spec those → these ≡ those
-one_meaning spec these those a b =
-    let ds = one_declaration spec a.declares.declared b.declares.declared a.declares.by_lines b.declares.by_lines in
-    a.declares.are_rules ∙ ap declared_rules ds ∙ sym b.declares.are_rules
+use Rattle.ck_tool.proofs.AcceptedOrRefused.{one_refusal, refused_or_accepted, one_meaning}
 
 -- scanning a source has one answer
 one_scanning : (rules : Rules) (source : List ℕ) (o p : Outcome) → Scanning rules source o → Scanning rules source p → o ≡ p

@@ -1,33 +1,22 @@
--- The tokens of declared rules have names, as scanning asks for.
-use Rattle.std.proofs.Common.{◌≡◌, ℕ, ◌<◌, List, length, Option, Some, None, IfSome, refl, sym, subst}
-use Rattle.std.specs.Prelude.{option_and_then, slice_index_or}
-use Rattle.std.specs.List.{All}
-use Rattle.std.proofs.Math.ListN.{get_or-map}
-use Rattle.std.proofs.lemmas.List.{length-map}
-use Rattle.std.proofs.lemmas.List.Elements.{All-map}
-use Rattle.std.proofs.lemmas.Option.{slice_get_within}
-use Rattle.ck_base.specs.Numbered.{number_of}
-use Rattle.ck_base.proofs.NamesMet.{name_at_number}
-use Rattle.rex_model.specs.Rules.{Rule, Rules}
+-- The tokens of scan rules have names, as printing asks for.
+use Rattle.std.proofs.Common.{◌≡◌, ℕ, ◌<◌, length, get_or, Option, Some, None, IfSome, option_map, slice_get, ap, ◌∙◌}
+use Rattle.std.proofs.lemmas.Option.{slice_get-map, slice_get-get_or}
+use Rattle.rex_model.specs.Rules.{Rule}
 use Rattle.rex_model.specs.RuleMeaning.{rule_of, rules_of}
+use Rattle.rex_model.specs.declared.rules.ScanRule.{ScanRule}
 use Rattle.rex_model.specs.declared.rules.ScanRules.{ScanRules}
-use Rattle.ck_tool.specs.Declares.{declared_rules, rule_in, DeclaresRules}
-use Rattle.ck_tool.specs.within.Places.{NameTokens}
+use Rattle.ck_tool.specs.within.Scanners.{NameTokens}
 
--- the number of a name is below how many there are
-below : (names : List (List ℕ)) (name : Option (List ℕ)) → IfSome (option_and_then (number_of names) name) (λ t. t < length names)
-below names None = tt
-below names (Some name) = cases (number_of names name) refl
+pub have_names : (rules : ScanRules)
+    → ((i n : ℕ) (rule : Rule) → slice_get (rules_of rules).list i ≡ Some rule → rule.token ≡ Some n → n < length rules.tokens)
+    → NameTokens rules
+have_names rules number = λ k d within.
+    let here = slice_get-get_or rules.rules.items k d within in
+    named (get_or rules.rules.items k d) k (slice_get-map rule_of rules.rules.items k ∙ ap (option_map rule_of) here)
   where
-    cases : (number : Option ℕ) → number_of names name ≡ number → IfSome number (λ t. t < length names)
-    cases None is = tt
-    cases (Some n) is = slice_get_within names n name (name_at_number names name n is)
-
-pub have_names : (spec : List ℕ) (rules : ScanRules) → DeclaresRules spec (rules_of rules) → NameTokens rules
-have_names spec rules declares = λ k d within.
-    let number = λ (all : Rules) (rule : Rule). IfSome rule.token (λ t. t < length all.tokens) in
-    let meant = declared_rules declares.declared in
-    let each : All (number meant) meant.list = All-map (number meant) (rule_in meant.tokens) declares.declared
-    (λ i other inside. below meant.tokens (slice_index_or declares.declared i other).token) in
-    let all = subst (λ those. All (number those) those.list) (sym declares.are_rules) each in
-    rw (get_or-map rule_of rules.rules.items k d) at (all k (rule_of d) (rw (length-map rules.rules.items rule_of) within))
+    named : (rule : ScanRule) (k : ℕ) → slice_get (rules_of rules).list k ≡ Some (rule_of rule) → IfSome rule.token (λ t. t < length rules.tokens)
+    named rule k at = cases rule.token (λ n is. number k n (rule_of rule) at is)
+      where
+        cases : (token : Option ℕ) → ((n : ℕ) → token ≡ Some n → n < length rules.tokens) → IfSome token (λ t. t < length rules.tokens)
+        cases None below = tt
+        cases (Some n) below = below n refl

@@ -1,8 +1,8 @@
 -- The walk over a text from scan to scan, and what it has written on the way.
-use Rattle.std.proofs.Common.{◌≡◌, ℕ, ◌+◌, ◌<◌, ◌≤◌, List, [], ◌∷◌, ◌++◌, length, Some, slice_get, flat_map, ap, ◌∙◌, append_assoc, drop, arith, length-drop}
+use Rattle.std.proofs.Common.{◌≡◌, ℕ, ◌+◌, ◌<◌, ◌≤◌, List, [], ◌∷◌, ◌++◌, length, Option, None, Some, slice_get, flat_map, refl, ap, ◌∙◌, append_assoc, drop, arith, length-drop}
 use Rattle.std.proofs.lemmas.List.{append-nil, flat_map_more}
 use Rattle.rex_model.specs.Run.{Scans, Token, Tokens, Ending, finished, bad_at}
-use Rattle.rex_model.specs.Winner.{Candidate}
+use Rattle.rex_model.specs.Winner.{Candidate, state_or, next_state}
 use Rattle.rex_model.specs.Rules.{Rule}
 use Rattle.rex_model.specs.declared.scan.Scan.TheVariants as scan
 use Rattle.ck_tool.specs.TokenText.{token_line, tokens_text, end_line}
@@ -34,6 +34,24 @@ pub record GivesNone (rules : List Rule) (text : List ℕ) (state at to next : �
 ends_within : (rules : List Rule) (text : List ℕ) (state at i n m : ℕ) → Candidate rules state (drop at text) i n m → at + n ≤ length text
 ends_within rules text state at i n m candidate =
     omega (arith, candidate.some, candidate.fits, candidate.within, length-drop at text)
+
+-- the scan goes on in a state
+next_inside : (rule : Rule) (state count : ℕ) → ((n : ℕ) → rule.next ≡ Some n → n < count) → state < count → next_state rule state < count
+next_inside rule state count inside old = by rule.next inside
+  where
+    by : (next : Option ℕ) → ((n : ℕ) → next ≡ Some n → n < count) → state_or next state < count
+    by None inside = old
+    by (Some n) inside = inside n refl
+
+module _ (rules : List Rule) (count : ℕ) (inside : (i n : ℕ) (rule : Rule) → slice_get rules i ≡ Some rule → rule.next ≡ Some n → n < count)
+    (text : List ℕ) (state at i to next : ℕ) (old : state < count) where
+  pub token_inside : Scans rules text state at (scan.Token i to next) → next < count
+  token_inside (Scans.token i n m t won is) =
+      next_inside won.candidate.rule state count (λ k named. inside i k won.candidate.rule won.candidate.is_rule named) old
+
+  pub skip_inside : Scans rules text state at (scan.Skip i to next) → next < count
+  skip_inside (Scans.skip i n m won is) =
+      next_inside won.candidate.rule state count (λ k named. inside i k won.candidate.rule won.candidate.is_rule named) old
 
 -- what each scan says
 pub gives_token : (rules : List Rule) (text : List ℕ) (state at i to next : ℕ) → Scans rules text state at (scan.Token i to next)

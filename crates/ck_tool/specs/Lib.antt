@@ -1,11 +1,6 @@
 pub mod Accepts
-pub mod Declares
-pub mod LineTokens
-pub mod NumberedLines
 pub mod Outcome
 pub mod Ran
-pub mod RuleShape
-pub mod Sections
 pub mod TokenText
 pub mod Wanted
 pub mod within

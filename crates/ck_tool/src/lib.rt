@@ -7,11 +7,7 @@
 //! | how a run ends | `specs/Ran.antt`; `src/stop.rt`, `src/telling.rt` |
 //! | which words are right, and the stage that they ask for | `src/words.rt`, `src/stage.rt`; `specs/Words.antt` |
 //! | which specifications are accepted | `specs/Accepts.antt` |
-//! | its scan rules, or its first fault | `src/reader.rt`; `specs/Declares.antt` |
-//! | its lines with tokens | `src/line.rt`; `specs/NumberedLines.antt` |
-//! | those between REX and END | `src/section.rt`; `specs/Sections.antt` |
-//! | the rule that a line declares | `src/shape.rt`; `specs/RuleShape.antt` |
-//! | the tokens of a line, and the bytes of a class | `src/token.rt`, `src/bytes.rt`, `src/class.rt`; `specs/LineTokens.antt` |
+//! | its scan rules and their tables, or why it is refused | `src/accepting.rt` |
 //! | what a stage makes of a source | `specs/Outcome.antt` |
 //! | its tokens as text | `src/token_text.rt`, `src/quote.rt`; `specs/TokenText.antt` |
 //! | line and column of a place | `src/place.rt` |
@@ -19,19 +15,13 @@
 //! | a run has one answer | `src/laws.rt`; `proofs/OneOutcome.antt`, `proofs/SomeOutcome.antt` |
 #![tactic(auto)]
 
-mod bytes;
-mod class;
+mod accepting;
 mod laws;
-mod line;
 mod place;
 mod quote;
-mod reader;
-mod section;
-mod shape;
 mod stage;
 mod stop;
 mod telling;
-mod token;
 mod token_text;
 mod top;
 mod words;

@@ -1,7 +1,9 @@
 ghost use Rattle.std.specs.Prelude.{◌≡◌, ◌≢◌, ◌+◌, ◌^◌, ◌<◌, ◌++◌, length, decimal, All, IfSome, OnOk, Some, None, slice_get};
 ghost use Rattle.rex_model.specs.RuleMeaning.{rules_of};
+ghost use Rattle.rex_model.specs.TableMeaning.{tables_of};
 ghost use Rattle.ck_tool.specs.Outcome.{Scanning};
-ghost use Rattle.ck_tool.specs.within.Places.{NameTokens, printed_place, printed_token, printed_end};
+ghost use Rattle.ck_tool.specs.within.Places.{printed_place, printed_token, printed_end};
+ghost use Rattle.ck_tool.specs.within.Scanners.{NameTokens, ScansBy};
 ghost use Rattle.ck_tool.specs.within.Stops.{answer_in};
 
 use crate::place::Place;
@@ -9,40 +11,45 @@ use crate::quote::push_quoted;
 use crate::stop::Stop;
 use ck_base::{NoMemory, Refusal};
 use itoa::Buffer;
-use rex_model::{PositionSets, Scan, ScanRules, scan_with};
+use rex_model::{Scan, ScanRules, ScanTables};
+use scan_driver::next;
 use std::alloc::Global;
 
 /// The printed tokens of the source, a line each, with END at the end.
-pub(crate) fn tokens_text(alloc: Global, rules: &ScanRules, source: &[u8]) -> Result<Vec<u8>, Stop>
-    requires few { length rules.now.rules.items < 2 ^ 32 }
+pub(crate) fn tokens_text(
+    alloc: Global,
+    rules: &ScanRules<'_>,
+    tables: &ScanTables,
+    source: &[u8],
+) -> Result<Vec<u8>, Stop>
+    requires scans { ScansBy (rules_of rules.now) (tables_of tables.now) }
     requires named { NameTokens rules.now }
     requires small { length source.now + 1 < 2 ^ 32 }
     ensures answer { IfSome (answer_in result) (Scanning (rules_of rules.now) source.now) }
     ensures reads_nothing { result ≢ Err Stop.ReadFault }
 {
     let mut out = Vec::new(alloc);
-    let mut sets = PositionSets::new(alloc, rules)?;
     let mut place = Place::START;
     let mut state = 0;
     loop {
-        match scan_with(&mut sets, rules, source, state, place.at) {
+        match next(tables, source, state, place.at) {
             Scan::Token {
                 rule,
                 to,
-                state: next,
+                state: after,
             } => {
                 let name = token_name(rules, rule);
                 push_token(&mut out, place, name, &source[place.at..to])?;
                 place = place.forward(source, to);
-                state = next;
+                state = after;
             }
             Scan::Skip {
                 to,
-                state: next,
+                state: after,
                 ..
             } => {
                 place = place.forward(source, to);
-                state = next;
+                state = after;
             }
             Scan::End => {
                 push_end(&mut out, place)?;

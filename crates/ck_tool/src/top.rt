@@ -6,10 +6,11 @@ ghost use Rattle.ck_tool.specs.Outcome.{Outcome, Makes};
 ghost use Rattle.ck_tool.specs.Ran.{Answers, NoneRose, Ran, UsageExactly, WantedMemory, WritesOnlyDone, sunk};
 ghost use Rattle.ck_tool.specs.Wanted.{AreTold, ReadFailed, Wanted};
 ghost use Rattle.ck_tool.specs.Words.{AreRight};
-ghost use Rattle.ck_tool.specs.within.Places.{NameTokens};
+ghost use Rattle.rex_model.specs.TableMeaning.{tables_of};
+ghost use Rattle.ck_tool.specs.within.Scanners.{NameTokens, ScansBy};
 ghost use Rattle.ck_tool.specs.within.Stops.{Explains, IsAsked, IsStopOfRead, Meets, answer_in};
 
-use crate::reader::read_rules;
+use crate::accepting::{Accepted, accept};
 use crate::stage::Stage;
 use crate::stop::Stop;
 use crate::telling::tell;
@@ -18,7 +19,6 @@ use crate::words::{Command, command_of};
 use bumpalo::Bump;
 use ck_base::{MEMORY_LINE, NoMemory, READ_LINE, Refusal, Status, USAGE_LINE, WRITE_LINE};
 use ck_io::{Files, LoadError, Sink, load, put_all};
-use rex_model::ScanRules;
 use std::alloc::Global;
 
 /// A specification has at most this many bytes.
@@ -77,7 +77,7 @@ fn answer_of<F: Files>(alloc: Global, command: Command, files: &mut F) -> Result
 {
     let spec = read(alloc, files, command.spec, SPEC_LIMIT, Refusal::SpecTooLong)?;
     let arena = Bump::new(alloc);
-    let rules = read_rules(alloc, &arena, spec.as_slice())?;
+    let accepted = accept(alloc, &arena, spec.as_slice())?;
     let source = read(
         alloc,
         files,
@@ -85,19 +85,25 @@ fn answer_of<F: Files>(alloc: Global, command: Command, files: &mut F) -> Result
         SOURCE_LIMIT,
         Refusal::SourceTooLong,
     )?;
-    make(alloc, command.stage, &rules, source.as_slice())
+    make(alloc, command.stage, &accepted, source.as_slice())
 }
 
 /// What the stage makes of the source, or why it is refused.
-fn make(alloc: Global, stage: Stage, rules: &ScanRules, source: &[u8]) -> Result<Vec<u8>, Stop>
-    requires few { length rules.now.rules.items < 2 ^ 32 }
-    requires named { NameTokens rules.now }
+fn make(
+    alloc: Global,
+    stage: Stage,
+    accepted: &Accepted<'_>,
+    source: &[u8],
+) -> Result<Vec<u8>, Stop>
+    requires scans { ScansBy (rules_of accepted.now.rules) (tables_of accepted.now.tables) }
+    requires named { NameTokens accepted.now.rules }
     requires small { length source.now + 1 < 2 ^ 32 }
-    ensures answer { IfSome (answer_in result) (Makes stage (rules_of rules.now) source.now) }
+    ensures answer { IfSome (answer_in result)
+        (Makes stage (rules_of accepted.now.rules) source.now) }
     ensures reads_nothing { result ≢ Err Stop.ReadFault }
 {
     match stage {
-        Stage::Tokens => tokens_text(alloc, rules, source),
+        Stage::Tokens => tokens_text(alloc, &accepted.rules, &accepted.tables, source),
     }
 }
 

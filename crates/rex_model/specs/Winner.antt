@@ -27,10 +27,11 @@ pub record Winner (rules : List Rule) (state : ℕ) (rest : List ℕ) (i n m : �
 abbrev pub HasNoCandidate : List Rule → ℕ → List ℕ → Type 0
 HasNoCandidate rules state rest = (i n m : ℕ) → Candidate rules state rest i n m → ⊥
 
+-- the state that is named, else the old one
+abbrev pub state_or : Option ℕ → ℕ → ℕ
+state_or None old = old
+state_or (Some new) old = new
+
 -- the state after a text of the rule: the one that it names, else the same
 abbrev pub next_state : Rule → ℕ → ℕ
 next_state rule state = state_or rule.next state
-  where
-    state_or : Option ℕ → ℕ → ℕ
-    state_or None old = old
-    state_or (Some new) old = new

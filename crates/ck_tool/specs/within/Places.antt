@@ -1,8 +1,7 @@
 -- What a place of the program says of a text, and what is printed there.
-use Rattle.std.specs.Prelude.{◌≡◌, ℕ, ◌<◌, ◌≤◌, List, [], ◌∷◌, ◌++◌, length, All, IfSome, codes}
+use Rattle.std.specs.Prelude.{◌≡◌, ℕ, ◌≤◌, List, [], ◌∷◌, ◌++◌, length, codes}
 use Rattle.std.specs.Fmt.{decimal}
 use Rattle.rex_model.specs.Place.{line_at, column_at}
-use Rattle.rex_model.specs.declared.rules.ScanRules.{ScanRules}
 use Rattle.ck_tool.specs.TokenText.{quoted}
 use Rattle.ck_tool.specs.declared.place.Place.{Place}
 
@@ -11,10 +10,6 @@ pub record IsPlace (text : List ℕ) (place : Place) : Type 0 where
   pub within : place.at ≤ length text
   pub line : place.line ≡ line_at text place.at
   pub column : place.col ≡ column_at text place.at
-
--- each token of the rules has a name
-abbrev pub NameTokens : ScanRules → Type 0
-NameTokens rules = All (λ rule. IfSome rule.token (λ t. t < length rules.tokens)) rules.rules.items
 
 -- `line:col ` of the place
 abbrev pub printed_place : Place → List ℕ

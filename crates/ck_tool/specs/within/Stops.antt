@@ -8,6 +8,7 @@ use Rattle.ck_base.specs.declared.refusal.Refusal.{Refusal}
 use Rattle.ck_base.specs.declared.refusal.Refusal.TheVariants as refusal
 use Rattle.ck_base.specs.declared.status.Status.{Status}
 use Rattle.ck_base.specs.declared.status.Status.TheVariants as status
+use Rattle.ck_tool.specs.Accepts.{RefusesSpec}
 use Rattle.ck_tool.specs.Outcome.{Outcome, output, refused}
 use Rattle.ck_tool.specs.Ran.{Sunk, Tells}
 use Rattle.ck_tool.specs.Words.{AreOfStage}
@@ -25,6 +26,12 @@ abbrev pub IsStopOfRead : Refusal → Type 0 → Type 0 → Stop → Type 0
 IsStopOfRead too_long longer rose (Refused r) = (r ≡ too_long) × longer
 IsStopOfRead too_long longer rose ReadFault = rose
 IsStopOfRead too_long longer rose NoMemory = Unit {0}
+
+-- the stop is a refusal of the specification, or for want of memory
+abbrev pub IsStopOfSpec : List ℕ → Stop → Type 0
+IsStopOfSpec spec (Refused r) = RefusesSpec spec r
+IsStopOfSpec spec ReadFault = ⊥
+IsStopOfSpec spec NoMemory = Unit {0}
 
 -- the stop for a fault of the specification
 abbrev pub stop_of : SpecFault → Stop

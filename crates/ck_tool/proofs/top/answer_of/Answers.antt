@@ -3,8 +3,7 @@ use Rattle.std.proofs.Common.{refl}
 use Rattle.rex_model.specs.RuleMeaning.{rules_of}
 use Rattle.ck_tool.specs.Accepts.{Accepts}
 use Rattle.ck_tool.specs.Wanted.{ReadFailed, Wanted}
-use Rattle.ck_tool.proofs.AnswerOfRun.{rose_before, reads_spec, reads_source, stop_at_spec, stop_at_fault, stop_at_source, stage_meets, stop_meets}
-use Rattle.ck_tool.proofs.ScannedRules.{have_names}
+use Rattle.ck_tool.proofs.AnswerOfRun.{rose_before, reads_spec, reads_source, stop_at_spec, stop_at_refusal, stop_at_source, stage_meets, stop_meets}
 use Rattle.ck_tool.proofs.top.answer_of.Goals as goal
 
 pub returns-in_err-spec-clause-answer : goal.returns-in_err-spec-clause-answer
@@ -16,24 +15,22 @@ returns-in_err-spec-clause-answer g c = λ words asked.
     (stop_at_spec told words _ _ _ asked failed _ _ _ refl
     (λ rose. (c.args.command.spec.now, reads_spec told words _ _ _ asked, rose)) c.in_err-spec.ensures.stop)
 
-pub returns-in_err-rules-clause-answer : goal.returns-in_err-rules-clause-answer
-returns-in_err-rules-clause-answer g c = λ words asked.
+pub returns-in_err-accepted-clause-answer : goal.returns-in_err-accepted-clause-answer
+returns-in_err-accepted-clause-answer g c = λ words asked.
     let files = g.F.Files in
     let told = files.contents c.args.files.now in
     let failed = ReadFailed files.contents files.faults words c.args.files.now c.read.new.files in
-    let fault = rw c.as_slice.ensures.value at c.in_err-rules.ensures.fault in
-    stop_meets (Wanted told words) failed _ _ c.from_residual-in_err-rules.ensures.1
-    (stop_at_fault told words _ _ _ asked failed _ _ c.in_ok-spec.ensures.all c.in_ok-spec.ensures.within fault)
+    let refuses = rw c.as_slice.ensures.value at c.in_err-accepted.ensures.refuses in
+    stop_meets (Wanted told words) failed _ _ c.from_residual-in_err-accepted.ensures.1
+    (stop_at_refusal told words _ _ _ asked failed _ _ c.in_ok-spec.ensures.all refuses)
 
 pub returns-in_err-source-clause-answer : goal.returns-in_err-source-clause-answer
 returns-in_err-source-clause-answer g c = λ words asked.
     let files = g.F.Files in
     let told = files.contents c.args.files.now in
     let name = c.args.command.source.now in
-    let accepts : Accepts c.in_ok-spec.spec.items (rules_of c.in_ok-rules.rules) = record {
-      fits = c.in_ok-spec.ensures.within;
-      declares = rw c.as_slice.ensures.value at c.in_ok-rules.ensures.declared;
-    } in
+    let accepts : Accepts c.in_ok-spec.spec.items (rules_of c.in_ok-accepted.accepted.rules) =
+        rw c.as_slice.ensures.value at c.in_ok-accepted.ensures.accepts in
     let stop = rw (c.in_ok-spec.ensures.same name) at c.in_err-source.ensures.stop in
     let failed = ReadFailed files.contents files.faults words c.args.files.now c.read-2.new.files in
     stop_meets (Wanted told words) failed _ _ c.from_residual-in_err-source.ensures.1
@@ -44,16 +41,11 @@ returns-in_err-source-clause-answer g c = λ words asked.
       rose_before _ _ _ (c.in_ok-spec.ensures.later name) rose,
     )) stop)
 
-pub make-requires-clause-named : goal.make-requires-clause-named
-make-requires-clause-named g c = have_names _ c.in_ok-rules.rules c.in_ok-rules.ensures.declared
-
 pub returns-clause-answer : goal.returns-clause-answer
 returns-clause-answer g c = λ words asked.
     let told = g.F.Files.contents c.args.files.now in
-    let accepts : Accepts c.in_ok-spec.spec.items (rules_of c.in_ok-rules.rules) = record {
-      fits = c.in_ok-spec.ensures.within;
-      declares = rw c.as_slice.ensures.value at c.in_ok-rules.ensures.declared;
-    } in
+    let accepts : Accepts c.in_ok-spec.spec.items (rules_of c.in_ok-accepted.accepted.rules) =
+        rw c.as_slice.ensures.value at c.in_ok-accepted.ensures.accepts in
     let is = rw (c.in_ok-spec.ensures.same c.args.command.source.now) at c.in_ok-source.ensures.all in
     let made = rw c.as_slice-2.ensures.value at c.make.ensures.answer in
     stage_meets told words _ _ _ asked _ _ c.in_ok-spec.ensures.all accepts _ _ c.make.result is c.in_ok-source.ensures.within made
