@@ -8,7 +8,7 @@ use Rattle.spec_text.specs.TextLines.{TextLine, TextLines, is_no_feed, no_lines,
 use Rattle.spec_text.specs.Steps.{BeginsLine}
 use Rattle.spec_text.proofs.Begin.{front_passes}
 
-a_feed : (byte : ℕ) → is_no_feed byte ≡ false → byte ≡ 10
+pub a_feed : (byte : ℕ) → is_no_feed byte ≡ false → byte ≡ 10
 a_feed byte is = grind (arith, nat_tests)
 
 -- a line feed stands behind the bytes that are none

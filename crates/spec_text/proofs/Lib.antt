@@ -17,8 +17,8 @@ pub mod One
 pub mod PassedOn
 pub mod Lists
 pub mod Views
-mod OneFile
-mod OneSections
+pub mod OneFile
+pub mod OneSections
 mod Spelled
 pub mod Names
 pub mod OneFault
@@ -26,5 +26,8 @@ pub mod Frame
 pub mod Numbers
 pub mod Others
 pub mod Parting
+pub mod SomeReading
+pub mod SomeSections
+pub mod SectionExamples
 mod Examples
 pub mod KindOrder

@@ -17,7 +17,7 @@ one_least : (P : ℕ → Type 0) (n m : ℕ) → Least P n → Least P m → n �
 one_least P n m f g = omega (arith, f.least m g.is, g.least n f.is)
 
 -- where no number is the least one with P, none has it
-no_least : (P : ℕ → Type 0) → ((n : ℕ) → Least P n → ⊥) → (bound n : ℕ) → n < bound → P n → ⊥
+pub no_least : (P : ℕ → Type 0) → ((n : ℕ) → Least P n → ⊥) → (bound n : ℕ) → n < bound → P n → ⊥
 no_least P none zero n less is = omega (arith, less)
 no_least P none (suc bound) n less is = by (no_least P none bound)
   where

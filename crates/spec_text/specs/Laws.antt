@@ -1,5 +1,6 @@
 -- Laws on tokens, lines and sections.
 use Rattle.std.specs.Prelude.{◌≡◌, ℕ, List, Option}
+use Rattle.ck_base.specs.Found.{HasNo}
 use Rattle.ck_base.specs.declared.fault.Kind.{Kind}
 use Rattle.spec_text.specs.Reading.{Placed, Reads}
 use Rattle.spec_text.specs.Lexemes.{Lexeme, Begins}
@@ -7,6 +8,7 @@ use Rattle.spec_text.specs.Lines.{Line, FileLines}
 use Rattle.spec_text.specs.Promise.{HasSections, HasSection, FirstSectionFault}
 use Rattle.spec_text.specs.Sections.{SectionLines}
 use Rattle.spec_text.specs.declared.section.Section.{Section}
+use Rattle.spec_text.specs.declared.section.Section.TheVariants.{Rex}
 use Rattle.spec_text.specs.declared.section.Part.{Part}
 
 -- a line begins with one token at most
@@ -46,3 +48,26 @@ OneSectionFault =
     → line ≡ other)
     × ((file : List ℕ) (lines : List Line) (parts : List Part) (line : ℕ)
     → HasSections file lines parts → FirstSectionFault file line → ⊥)
+
+-- a line has a reading: it can't be that there is none
+abbrev pub SomeReading : Type 0
+SomeReading =
+    (at : ℕ) (line : List ℕ)
+    → ((tokens : List Placed) (bad : Option Kind) → Reads at line tokens bad → ⊥) → ⊥
+
+-- a file has lines: it can't be that there are none
+abbrev pub SomeFile : Type 0
+SomeFile =
+    (file : List ℕ) → ((lines : List Line) (count : ℕ) → FileLines file lines count → ⊥) → ⊥
+
+-- a file has sections or a first section fault: it can't be that there is neither
+abbrev pub SomeOrder : Type 0
+SomeOrder =
+    (file : List ℕ) → ((lines : List Line) (parts : List Part) → HasSections file lines parts → ⊥)
+    → HasNo (FirstSectionFault file) → ⊥
+
+-- a file that has sections has REX
+abbrev pub SomeRex : Type 0
+SomeRex =
+    (file : List ℕ) (lines : List Line) (parts : List Part) → HasSections file lines parts
+    → (these : SectionLines) × HasSection file Rex these

@@ -1,4 +1,4 @@
-ghost use Rattle.spec_text.specs.Laws.{OneBegin, OneFile, OneOrder, OneReading, OneSection, OneSectionFault};
+ghost use Rattle.spec_text.specs.Laws.{OneBegin, OneFile, OneOrder, OneReading, OneSection, OneSectionFault, SomeFile, SomeOrder, SomeReading, SomeRex};
 
 /// Law: a line begins with one token at most.
 pub fn one_token_begins()
@@ -28,4 +28,24 @@ pub fn at_most_one_section()
 /// Law: a file has one section fault at most, and none beside its sections.
 pub fn at_most_one_section_fault()
     ensures { OneSectionFault }
+{}
+
+/// Law: a line has a reading.
+pub fn some_reading()
+    ensures { SomeReading }
+{}
+
+/// Law: a file has lines.
+pub fn some_file()
+    ensures { SomeFile }
+{}
+
+/// Law: a file has sections or a first section fault.
+pub fn some_order()
+    ensures { SomeOrder }
+{}
+
+/// Law: a file that has sections has REX.
+pub fn some_rex()
+    ensures { SomeRex }
 {}

@@ -29,7 +29,7 @@ mod view;
 
 pub use laws::{
     at_most_one_file, at_most_one_order, at_most_one_reading, at_most_one_section,
-    at_most_one_section_fault, one_token_begins,
+    at_most_one_section_fault, one_token_begins, some_file, some_order, some_reading, some_rex,
 };
 pub use line::SpecLine;
 pub use part::{after_sign, after_word, is_sign, is_word, name_of, names_of, number_of, text_of};
