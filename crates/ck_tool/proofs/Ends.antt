@@ -15,6 +15,8 @@ use Rattle.ck_tool.specs.declared.stage.Stage.TheVariants as stages
 use Rattle.ck_tool.specs.declared.stop.Stop.{Stop}
 use Rattle.ck_tool.specs.declared.stop.Stop.TheVariants.{Refused, ReadFault, NoMemory}
 use Rattle.ck_tool.specs.within.Stops.{Explains, Meets, answer_in}
+use Rattle.ck_tool.specs.Accepts.{RefusesSpec}
+use Rattle.ck_tool.proofs.AcceptedOrRefused.{not_of_tables}
 use Rattle.ck_tool.proofs.AnswerOfRun.{wanted_of_words}
 use Rattle.ck_tool.proofs.OneOutcome.{one_outcome}
 use Rattle.rex_model.specs.Rules.{Rules}
@@ -57,7 +59,13 @@ makes_no_usage stages.Tokens rules source scans = elim scans [ ]
 -- Usage is wanted for wrong words alone
 usage_is_wrong : (words files : List (List ℕ)) → Settles words files (refused refusal.Usage) → AreRight words → ⊥
 usage_is_wrong words _ (by_words wrong) right = wrong right
-usage_is_wrong words _ (by_spec stage s x spec _ are refuses) right = elim refuses [ ]
+usage_is_wrong words _ (by_spec stage s x spec _ are refuses) right = never refusal.Usage refuses refl
+  where
+    never : (r : Refusal) → RefusesSpec spec r → r ≡ refusal.Usage → ⊥
+    never _ (RefusesSpec.too_long longer) is = cc
+    never _ (RefusesSpec.faulty fits line k fault) is = cc
+    never _ (RefusesSpec.no_tables fits rules error r declares reason given) is = not_of_tables error r given (inl is)
+    never _ (RefusesSpec.unbuilt fits rules line declares have other) is = cc
 usage_is_wrong words _ (by_source stage s x spec source rules _ are accepts answers) right = never answers
   where
     never : AnswerOf stage rules source (refused refusal.Usage) → ⊥

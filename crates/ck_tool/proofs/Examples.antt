@@ -5,7 +5,7 @@ use Rattle.rex_model.specs.Language.{bytes, class, plus}
 use Rattle.rex_model.specs.Run.{Tokens as TokensOf, finished}
 use Rattle.rex_model.specs.Winner.{Winner}
 use Rattle.rex_model.specs.Rules.{Rule}
-use Rattle.ck_tool.specs.LineTokens.{is_between}
+use Rattle.spec_text.specs.Bytes.{is_between}
 use Rattle.ck_tool.specs.TokenText.{quoted, token_line, tokens_text}
 use Rattle.ck_tool.specs.Words.{AreRight, of_stage}
 use Rattle.ck_tool.specs.declared.stage.Stage.TheVariants.{Tokens}

@@ -1,5 +1,5 @@
 -- The tokens of scan rules have names, as printing asks for.
-use Rattle.std.proofs.Common.{◌≡◌, ℕ, ◌<◌, length, get_or, Option, Some, None, IfSome, option_map, slice_get, ap, ◌∙◌}
+use Rattle.std.proofs.Common.{◌≡◌, ℕ, ◌<◌, length, get_or, Option, Some, None, IfSome, option_map, slice_get, refl, ap, ◌∙◌}
 use Rattle.std.proofs.lemmas.Option.{slice_get-map, slice_get-get_or}
 use Rattle.rex_model.specs.Rules.{Rule}
 use Rattle.rex_model.specs.RuleMeaning.{rule_of, rules_of}

@@ -43,14 +43,13 @@ next_inside rule state count inside old = by rule.next inside
     by None inside = old
     by (Some n) inside = inside n refl
 
-module _ (rules : List Rule) (count : ℕ) (inside : (i n : ℕ) (rule : Rule) → slice_get rules i ≡ Some rule → rule.next ≡ Some n → n < count)
-    (text : List ℕ) (state at i to next : ℕ) (old : state < count) where
-  pub token_inside : Scans rules text state at (scan.Token i to next) → next < count
-  token_inside (Scans.token i n m t won is) =
+module _ (rules : List Rule) (count : ℕ) (inside : (i n : ℕ) (rule : Rule) → slice_get rules i ≡ Some rule → rule.next ≡ Some n → n < count) where
+  pub token_inside : (text : List ℕ) (state at i to next : ℕ) → state < count → Scans rules text state at (scan.Token i to next) → next < count
+  token_inside text state at _ _ _ old (Scans.token i n m t won is) =
       next_inside won.candidate.rule state count (λ k named. inside i k won.candidate.rule won.candidate.is_rule named) old
 
-  pub skip_inside : Scans rules text state at (scan.Skip i to next) → next < count
-  skip_inside (Scans.skip i n m won is) =
+  pub skip_inside : (text : List ℕ) (state at i to next : ℕ) → state < count → Scans rules text state at (scan.Skip i to next) → next < count
+  skip_inside text state at _ _ _ old (Scans.skip i n m won is) =
       next_inside won.candidate.rule state count (λ k named. inside i k won.candidate.rule won.candidate.is_rule named) old
 
 -- what each scan says

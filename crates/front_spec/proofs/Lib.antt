@@ -9,3 +9,5 @@ mod OneSaying
 mod Passes
 mod MadeRules
 mod ReadRex
+pub mod OneRex
+pub mod RexExamples

@@ -1,5 +1,5 @@
 -- The first section that isn't one of some.
-use Rattle.std.proofs.Common.{◌≡◌, ℕ, ◌+◌, ◌<◌, ◌⊎◌, inl, inr, List, length, Contains, Some, sym, ◌∙◌, arith}
+use Rattle.std.proofs.Common.{◌≡◌, ℕ, ◌+◌, ◌<◌, ◌⊎◌, inl, inr, List, length, Contains, Some, sym, ap, ◌∙◌, arith}
 use Rattle.std.specs.List.{slice_get}
 use Rattle.ck_base.specs.Found.{HasNo}
 use Rattle.spec_text.specs.Promise.{AreSectionsOf, IsFirstOther}
@@ -53,3 +53,20 @@ none_other file s these i end known are line found =
     let same = (one_order file are.lines found.lines s.parts.items found.parts are.sections found.sections).1 in
     let at = rw (← same) at found.at in
     found.other (known found.place found.part (let n = get_fits s.parts.items found.place found.part at in omega (arith, n, end)) at)
+
+-- the first one of another section is one
+pub one_other : (file : List ℕ) (these : List Section) (n m : ℕ) → IsFirstOther file these n → IsFirstOther file these m → n ≡ m
+one_other file these n m a b =
+    let same = one_order file a.lines b.lines a.parts b.parts a.sections b.sections in
+    let b_at : slice_get a.parts b.place ≡ Some b.part = rw (← same.1) at b.at in
+    let places : a.place ≡ b.place = first_place (order a.place b.place) b_at in
+    let parts : a.part ≡ b.part = (let one = rw places at a.at in let x = sym one ∙ b_at in cc) in
+    let head : slice_get a.lines b.part.head ≡ Some b.head = rw (← same.0) at b.head_at in
+    let heads : a.head ≡ b.head = (let one = rw parts at a.head_at in let x = sym one ∙ head in cc) in
+    a.number ∙ ap (λ line. line.number) heads ∙ sym b.number
+  where
+    first_place : (a.place < b.place) ⊎ ((b.place < a.place) ⊎ (a.place ≡ b.place)) → slice_get a.parts b.place ≡ Some b.part → a.place ≡ b.place
+    first_place (inl before) b_at = absurd (a.other (b.first a.place a.part before
+        (let same = one_order file a.lines b.lines a.parts b.parts a.sections b.sections in rw same.1 at a.at)))
+    first_place (inr (inl after)) b_at = absurd (b.other (a.first b.place b.part after b_at))
+    first_place (inr (inr same)) b_at = same

@@ -24,10 +24,12 @@ use judging::{Tally, judge};
 use std::fs;
 
 /// The files of cases.
-const FILES: [&str; 5] = [
+const FILES: [&str; 7] = [
     "examples.txt",
     "tokens.txt",
     "specifications.txt",
+    "notation.txt",
+    "scanning.txt",
     "words.txt",
     "devices.txt",
 ];

@@ -24,7 +24,7 @@ returns-in-Err-clause-refuses c =
 pub returns-in-Some-clause-refuses : goal.returns-in-Some-clause-refuses
 returns-in-Some-clause-refuses c =
     let have : HaveTables (rules_of c.in_ok-rules.rules) =
-        record { bodies = c.in-Ok.ensures.bodies; scanner = c.in-Ok.ensures.scanner; splits = c.in-Ok.ensures.splits } in
+    record { bodies = c.in-Ok.ensures.bodies; scanner = c.in-Ok.ensures.scanner; splits = c.in-Ok.ensures.splits } in
     unbuilt c.requires _ _ c.in_ok-rules.ensures.rules have (c.in-Some.ensures c.args.spec.now c.in_ok-all.ensures.sections)
 
 pub returns-clause-accepts : goal.returns-clause-accepts

@@ -1,4 +1,7 @@
-use Rattle.std.proofs.Common.{◌++◌, ap, ◌∙◌, arith}
+use Rattle.std.proofs.Common.{◌++◌, map, ap, ◌∙◌, arith}
+use Rattle.std.proofs.lemmas.List.{length-map}
+use Rattle.std.proofs.lemmas.Option.{slice_get_within}
+use Rattle.rex_model.specs.RuleMeaning.{rule_of}
 use Rattle.ck_tool.specs.Outcome.{bad_token, printed}
 use Rattle.ck_tool.proofs.PrintedLine.{name_of_token, token_line_here, end_line_here}
 use Rattle.ck_tool.proofs.Walk.{token_inside, skip_inside, gives_token, gives_none, gives_end, gives_bad, takes, passes, finishes, stops}
@@ -43,3 +46,17 @@ loop-rule-smaller-in-Token c =
 
 pub forward-place-requires-in-Skip-clause-within : goal.forward-place-requires-in-Skip-clause-within
 forward-place-requires-in-Skip-clause-within c = (gives_none _ _ _ _ _ _ _ (c.in-Skip.ensures _ c.requires.scans.gives)).within
+
+pub loop-rule-smaller : goal.loop-rule-smaller
+loop-rule-smaller c =
+    let gives = gives_none _ _ _ _ _ _ _ (c.in-Skip.ensures _ c.requires.scans.gives) in
+    omega (arith, gives.forward, gives.within, c.forward-place-in-Skip.ensures.at)
+
+pub token_name-name-requires-clause-rule : goal.token_name-name-requires-clause-rule
+token_name-name-requires-clause-rule c =
+    let gives = gives_token _ _ _ _ _ _ _ (c.in-Token.ensures _ c.requires.scans.gives) in
+    let below = slice_get_within (map rule_of c.args.rules.now.rules.items) c.in-Token.rule gives.rule gives.is_rule in
+    omega (arith, below, length-map c.args.rules.now.rules.items rule_of)
+
+pub slice_bounds-push_token-end : goal.slice_bounds-push_token-end
+slice_bounds-push_token-end c = (gives_token _ _ _ _ _ _ _ (c.in-Token.ensures _ c.requires.scans.gives)).within

@@ -30,7 +30,7 @@ returns-in_err-source-clause-answer g c = λ words asked.
     let told = files.contents c.args.files.now in
     let name = c.args.command.source.now in
     let accepts : Accepts c.in_ok-spec.spec.items (rules_of c.in_ok-accepted.accepted.rules) =
-        rw c.as_slice.ensures.value at c.in_ok-accepted.ensures.accepts in
+    rw c.as_slice.ensures.value at c.in_ok-accepted.ensures.accepts in
     let stop = rw (c.in_ok-spec.ensures.same name) at c.in_err-source.ensures.stop in
     let failed = ReadFailed files.contents files.faults words c.args.files.now c.read-2.new.files in
     stop_meets (Wanted told words) failed _ _ c.from_residual-in_err-source.ensures.1
@@ -45,7 +45,7 @@ pub returns-clause-answer : goal.returns-clause-answer
 returns-clause-answer g c = λ words asked.
     let told = g.F.Files.contents c.args.files.now in
     let accepts : Accepts c.in_ok-spec.spec.items (rules_of c.in_ok-accepted.accepted.rules) =
-        rw c.as_slice.ensures.value at c.in_ok-accepted.ensures.accepts in
+    rw c.as_slice.ensures.value at c.in_ok-accepted.ensures.accepts in
     let is = rw (c.in_ok-spec.ensures.same c.args.command.source.now) at c.in_ok-source.ensures.all in
     let made = rw c.as_slice-2.ensures.value at c.make.ensures.answer in
     stage_meets told words _ _ _ asked _ _ c.in_ok-spec.ensures.all accepts _ _ c.make.result is c.in_ok-source.ensures.within made
