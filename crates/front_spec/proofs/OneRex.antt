@@ -3,7 +3,7 @@ use Rattle.std.proofs.Common.{◌≡◌, ℕ, List, refl, sym, ap, ◌∙◌, su
 use Rattle.ck_base.specs.Found.{HasNo}
 use Rattle.ck_base.specs.declared.fault.Kind.{Kind}
 use Rattle.rex_model.specs.Rules.{Rules}
-use Rattle.spec_text.specs.Declares.{Declared, judged}
+use Rattle.spec_text.specs.Declares.{judged}
 use Rattle.spec_text.specs.FirstFault.{FirstFault, Accepts, ExactlyOne}
 use Rattle.spec_text.specs.Lines.{Line}
 use Rattle.spec_text.specs.Promise.{HasSections, HasSection}
@@ -14,7 +14,6 @@ use Rattle.spec_text.proofs.Frame.{one_of_both}
 use Rattle.spec_text.proofs.Numbers.{section_grows}
 use Rattle.spec_text.proofs.OneSections.{one_section}
 use Rattle.spec_text.proofs.SomeSections.{has_rex}
-use Rattle.front_spec.specs.RexShapes.{Saying}
 use Rattle.front_spec.specs.RexFaults.{rex}
 use Rattle.front_spec.specs.RexRules.{rules_by}
 use Rattle.front_spec.specs.Promise.{DeclaresRules, FirstRexFault}

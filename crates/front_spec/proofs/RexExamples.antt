@@ -1,5 +1,5 @@
 -- The shortest file that has sections declares no rule.
-use Rattle.std.proofs.Common.{ℕ, List, [], refl}
+use Rattle.std.proofs.Common.{ℕ, [], refl}
 use Rattle.ck_base.specs.declared.fault.Kind.{Kind}
 use Rattle.spec_text.specs.Declares.{no_lines, HasAt, judged}
 use Rattle.spec_text.specs.FirstFault.{Accepts}

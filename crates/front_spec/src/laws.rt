@@ -1,8 +1,14 @@
 ghost use Rattle.std.specs.Prelude.{◌≡◌, ℕ, List};
+ghost use Rattle.ck_base.specs.Found.{HasNo};
+ghost use Rattle.ck_base.specs.declared.fault.Kind.{Kind};
+ghost use Rattle.rex_model.specs.Rules.{Rules};
 ghost use Rattle.spec_text.specs.Declares.{LinesGrow, judged};
 ghost use Rattle.spec_text.specs.FirstFault.{ExactlyOne};
 ghost use Rattle.spec_text.specs.Lexemes.{Lexeme};
 ghost use Rattle.spec_text.specs.Lines.{Line};
+ghost use Rattle.spec_text.specs.Promise.{HasSections};
+ghost use Rattle.spec_text.specs.declared.section.Part.{Part};
+ghost use Rattle.front_spec.specs.Promise.{DeclaresRules, FirstRexFault};
 ghost use Rattle.front_spec.specs.Regexes.{EndsRegex, IsRegex, Written};
 ghost use Rattle.front_spec.specs.RexShapes.{RexShape, Saying};
 ghost use Rattle.front_spec.specs.RexFaults.{rex};
@@ -22,4 +28,19 @@ pub fn at_most_one_declaration()
 /// Law: exactly one of the first fault of REX and its declarations is there.
 pub fn fault_or_declarations()
     ensures { (lines : List Line) → LinesGrow lines → ExactlyOne (judged rex lines) }
+{}
+
+/// Law: in a file that has sections, REX declares rules or has a first fault, not both, and each
+/// in one way.
+pub fn one_rex()
+    ensures some { (file : List ℕ) (lines : List Line) (parts : List Part)
+        → HasSections file lines parts → HasNo (DeclaresRules file)
+        → ((line : ℕ) (kind : Kind) → FirstRexFault file line kind → ⊥) → ⊥ }
+    ensures one { (file : List ℕ) (rules others : Rules) → DeclaresRules file rules
+        → DeclaresRules file others → rules ≡ others }
+    ensures one_fault { (file : List ℕ) (line other : ℕ) (kind worse : Kind)
+        → FirstRexFault file line kind → FirstRexFault file other worse
+        → (line ≡ other) × (kind ≡ worse) }
+    ensures not_both { (file : List ℕ) (rules : Rules) (line : ℕ) (kind : Kind)
+        → DeclaresRules file rules → FirstRexFault file line kind → ⊥ }
 {}

@@ -18,5 +18,5 @@ mod rex;
 mod rule;
 mod rules;
 
-pub use laws::{at_most_one_declaration, at_most_one_regex, fault_or_declarations};
+pub use laws::{at_most_one_declaration, at_most_one_regex, fault_or_declarations, one_rex};
 pub use rex::read_rex;
