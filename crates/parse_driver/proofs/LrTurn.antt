@@ -27,6 +27,8 @@ use Rattle.parse_driver.proofs.LrPrefix.{Reduces, can_reduce}
 use Rattle.parse_driver.proofs.LrStates.{states_length, top_is, states_onto, popped}
 use Rattle.parse_driver.proofs.Spine.{left_in}
 
+-- A reduction, on a wrong token too: without a conflict each word that begins with the terminal is
+-- finished by the same reduction first, so each can still be finished after it.
 pub goes_on_reduced : (g : Cfg) → NoConflict g → (read : List ℕ) (p : List Sym) (r t : ℕ) (k : Reduces g p r)
     → 1 ≤ r → Completes g p r t → CanFinish g read p (Some t) → CanFinish g read (N k.left ∷ k.below) (Some t)
 goes_on_reduced g free read p r t k one c on v next is =

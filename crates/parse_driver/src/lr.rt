@@ -15,8 +15,8 @@ use cfg_model::{LrAction, LrTable};
 use ck_base::NoMemory;
 use std::alloc::Global;
 
-/// Parses the tokens by an LR table, after Knuth: the steps of their derivation, or the first wrong place.
-/// Rules may be reduced on a wrong token before it is found to be wrong; no answer shows them.
+/// Parses the tokens by an LR table, after Knuth: the steps of their derivation, or the first wrong
+/// place. Rules may be reduced on a wrong token before it is found to be wrong; no answer shows them.
 pub fn parse_lr<T: LrTable, K: Tokens>(
     alloc: Global,
     table: &T,
@@ -25,10 +25,12 @@ pub fn parse_lr<T: LrTable, K: Tokens>(
     requires table { IsLrTable (T.grammar table.now) (T.table table.now) }
     requires open { IsTrue (K.is_open tokens.old) }
     requires some { (all : List TokenRef) × (ending : Ending) × K.comes tokens.old all ending }
-    requires few { (all : List TokenRef) (ending : Ending) → K.comes tokens.old all ending → length all + 1 < 2 ^ 32 }
+    requires few { (all : List TokenRef) (ending : Ending) → K.comes tokens.old all ending
+        → length all + 1 < 2 ^ 32 }
     requires terminals { (all : List TokenRef) (ending : Ending) → K.comes tokens.old all ending
         → All (λ k. k.terminal < (T.grammar table.now).terminals) all }
-    ensures { (all : List TokenRef) (ending : Ending) → K.comes tokens.old all ending → Parses (T.grammar table.now) all ending result }
+    ensures { (all : List TokenRef) (ending : Ending) → K.comes tokens.old all ending
+        → Parses (T.grammar table.now) all ending result }
 {
     let mut states = Vec::new(alloc);
     let mut steps = Vec::new(alloc);
@@ -66,10 +68,13 @@ fn settle<T: LrTable>(
 ) -> Result<LrAction, NoMemory>
     requires table { IsLrTable (T.grammar table.now) (T.table table.now) }
     requires terminal { t ≤ (T.grammar table.now).terminals }
-    requires stack { (read : List TokenRef) × LrState (T.grammar table.now) (T.table table.now) read states.old.items steps.old.items (Some t) }
+    requires stack { (read : List TokenRef) × LrState (T.grammar table.now) (T.table table.now) read
+        states.old.items steps.old.items (Some t) }
     ensures { IfOk result (λ action. (read : List TokenRef)
-        → LrState (T.grammar table.now) (T.table table.now) read states.old.items steps.old.items (Some t)
-        → IsSettled (T.grammar table.now) (T.table table.now) read states.new.items steps.new.items t action) }
+        → LrState (T.grammar table.now) (T.table table.now) read
+        states.old.items steps.old.items (Some t)
+        → IsSettled (T.grammar table.now) (T.table table.now) read
+        states.new.items steps.new.items t action) }
 {
     'reductions: loop {
         let action = table.action(top_of(states), t);
@@ -80,7 +85,8 @@ fn settle<T: LrTable>(
     }
 }
 
-/// Reduces by a rule: takes a state off for each symbol of its right side, and goes on with its left side.
+/// Reduces by a rule: takes a state off for each symbol of its right side, and goes on with its left
+/// side.
 fn reduce<T: LrTable>(
     table: &T,
     rule: u32,
@@ -89,7 +95,8 @@ fn reduce<T: LrTable>(
 ) -> Result<(), NoMemory>
     requires { CanReduce (T.grammar table.now) (T.table table.now) states.old.items rule }
     ensures states { (n : ℕ) (w : List Sym) → IsRule (T.grammar table.now) rule n w
-        → IfOk result (λ _. states.new.items ≡ reduced_states (T.table table.now) states.old.items n (length w)) }
+        → IfOk result (λ _. states.new.items
+        ≡ reduced_states (T.table table.now) states.old.items n (length w)) }
     ensures steps { IfOk result (λ _. steps.new.items ≡ steps.old.items ++ (Reduce rule ∷ [])) }
 {
     let kept = states.len() - table.len(rule) as usize;

@@ -50,7 +50,8 @@ CanFinish g read p next =
 
 -- the states are those on the way to a prefix that has a core and derives what was read by the steps;
 -- from there each sentence that goes on so is finished
-pub record LrState (g : Cfg) (table : Table) (read : List TokenRef) (states : List ℕ) (steps : List Step) (next : Option ℕ) : Type 0 where
+pub record LrState (g : Cfg) (table : Table) (read : List TokenRef) (states : List ℕ)
+    (steps : List Step) (next : Option ℕ) : Type 0 where
   pub prefix : List Sym
   pub forest : Forest TokenRef
   pub core : HasCore g prefix
@@ -65,7 +66,8 @@ abbrev pub top : List ℕ → ℕ
 top states = get_or states (length states - 1) 0
 
 -- on the terminal no rule is to be reduced: what the table does, and that it is the grammar's action
-pub record IsSettled (g : Cfg) (table : Table) (read : List TokenRef) (states : List ℕ) (steps : List Step) (t : ℕ) (action : LrAction) : Type 0 where
+pub record IsSettled (g : Cfg) (table : Table) (read : List TokenRef) (states : List ℕ)
+    (steps : List Step) (t : ℕ) (action : LrAction) : Type 0 where
   pub state : LrState g table read states steps (Some t)
   pub is : table.act (top states) t ≡ action
   pub acts : IsAction g state.prefix t action
