@@ -42,9 +42,15 @@ impl Model for Types {
 
     ghost Value = { TypeTable };
 
-    ghost view = { λ t. record { families = map family_of_row t.families.items; types = map type_of_row t.types.items } };
+    ghost view = { λ t. record {
+      families = map family_of_row t.families.items;
+      types = map type_of_row t.types.items;
+    } };
 
-    ghost invariant = { λ t. IsSound (record { families = map family_of_row t.families.items; types = map type_of_row t.types.items }) };
+    ghost invariant = { λ t. IsSound (record {
+      families = map family_of_row t.families.items;
+      types = map type_of_row t.types.items;
+    }) };
 }
 
 impl Types {

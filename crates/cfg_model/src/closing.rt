@@ -64,7 +64,8 @@ fn add_round(g: &Grammar, words: bool, set: &mut Bits) -> bool
 fn add_left(rule: &GrammarRule, words: bool, set: &mut Bits) -> bool
     requires { rule.now.left < set.old.size }
     ensures added { IsTrue result → IsAdded words rule.now set.old set.new }
-    ensures same { result ≡ false → (set.new ≡ set.old) × (AllPass words (Has set.old) rule.now.right → Has set.old rule.now.left) }
+    ensures same { result ≡ false → (set.new ≡ set.old)
+        × (AllPass words (Has set.old) rule.now.right → Has set.old rule.now.left) }
 {
     if set.has(rule.left) {
         return false;

@@ -51,7 +51,9 @@ fn add_rules(
     requires firsts { AreRows g.now.nonterminals (g.now.terminals + 1) firsts.now }
     requires rows { AreRows g.now.nonterminals (g.now.terminals + 1) rows.old.items }
     ensures rows { AreRows g.now.nonterminals (g.now.terminals + 1) rows.new.items }
-    ensures behind { IfOk result (λ edges. AreBehind g.now firsts.now null.now reach.now rows.old.items rows.new.items edges.items) }
+    ensures behind { IfOk result
+        (λ edges. AreBehind g.now firsts.now null.now reach.now rows.old.items rows.new.items
+        edges.items) }
 {
     let count = g.nonterminals;
     let width = g.terminals + 1;
@@ -91,8 +93,10 @@ fn add_behind(
     requires trailer { trailer.old.size ≡ width }
     ensures rows { AreRows count width rows.new.items }
     ensures trailer { trailer.new.size ≡ width }
-    ensures begins { IfOk result (λ _. JoinsRows rows.old.items rows.new.items (BeginsBehind firsts.now null.now rule.now.right)) }
-    ensures edges { IfOk result (λ _. Gathers edges.old.items edges.new.items (VanishBehind null.now rule.now.left rule.now.right)) }
+    ensures begins { IfOk result (λ _. JoinsRows rows.old.items rows.new.items
+        (BeginsBehind firsts.now null.now rule.now.right)) }
+    ensures edges { IfOk result (λ _. Gathers edges.old.items edges.new.items
+        (VanishBehind null.now rule.now.left rule.now.right)) }
 {
     trailer.clear();
     let left = rule.left;
@@ -116,7 +120,8 @@ pub(crate) fn put_edge(
     vanish: bool,
     edges: &mut Vec<Edge>,
 ) -> Result<(), NoMemory>
-    ensures { IfOk result (λ _. Gathers edges.old.items edges.new.items (λ e. (e.from ≡ left) × (symbol ≡ N e.to) × IsTrue vanish)) }
+    ensures { IfOk result (λ _. Gathers edges.old.items edges.new.items (λ e. (e.from ≡ left)
+        × (symbol ≡ N e.to) × IsTrue vanish)) }
 {
     if let Sym::N(n) = symbol {
         if vanish {

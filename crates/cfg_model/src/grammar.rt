@@ -32,5 +32,10 @@ impl Model for Grammar {
 
     ghost Value = { Cfg };
 
-    ghost view = { λ g. record { terminals = g.terminals; nonterminals = g.nonterminals; start = g.start; rules = g.rules.items } };
+    ghost view = { λ g. record {
+      terminals = g.terminals;
+      nonterminals = g.nonterminals;
+      start = g.start;
+      rules = g.rules.items;
+    } };
 }

@@ -44,7 +44,8 @@ pub fn ranks(alloc: Global, g: &Grammar) -> Result<LeftRanks, NoMemory>
 fn ranks_of(alloc: Global, rows: &[Bits], count: u32) -> Result<Vec<u16>, NoMemory>
     requires rows { AreRows count count rows.now }
     requires few { count ≤ 512 }
-    ensures { IfOk result (λ ranks. (n : ℕ) → n < count → slice_index ranks.items n + missing (row rows.now n) ≡ count) }
+    ensures { IfOk result (λ ranks. (n : ℕ) → n < count
+        → slice_index ranks.items n + missing (row rows.now n) ≡ count) }
 {
     let mut ranks = Vec::new(alloc);
     for set in rows {

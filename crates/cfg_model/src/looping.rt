@@ -43,7 +43,8 @@ fn middle_edges(alloc: Global, g: &Grammar, null: &Bits) -> Result<Vec<Edge>, No
 
 /// Adds the rule's edges.
 fn add_middle(rule: &GrammarRule, null: &Bits, edges: &mut Vec<Edge>) -> Result<(), NoMemory>
-    ensures { IfOk result (λ _. Gathers edges.old.items edges.new.items (IsMiddle null.now rule.now.left rule.now.right)) }
+    ensures { IfOk result (λ _. Gathers edges.old.items edges.new.items
+        (IsMiddle null.now rule.now.left rule.now.right)) }
 {
     let left = rule.left;
     let right = rule.right.as_slice();

@@ -40,7 +40,8 @@ fn down_edges(alloc: Global, g: &Grammar) -> Result<Vec<Edge>, NoMemory>
 
 /// Adds the rule's edges.
 fn add_down(rule: &GrammarRule, edges: &mut Vec<Edge>) -> Result<(), NoMemory>
-    ensures { IfOk result (λ _. Gathers edges.old.items edges.new.items (IsDown rule.now.left rule.now.right)) }
+    ensures { IfOk result (λ _. Gathers edges.old.items edges.new.items
+        (IsDown rule.now.left rule.now.right)) }
 {
     let left = rule.left;
     let right = rule.right.as_slice();

@@ -64,9 +64,15 @@ fn fill_cell(
 ) -> Option<Clash>
     requires inside { at < length cells.old.items }
     requires fits { rule < 2 ^ 16 }
-    ensures free { slice_index cells.old.items at ≡ 0 → (cells.new.items ≡ slice_set cells.old.items at rule) × (result ≡ found) }
+    ensures free { slice_index cells.old.items at ≡ 0
+        → (cells.new.items ≡ slice_set cells.old.items at rule) × (result ≡ found) }
     ensures taken { 0 < slice_index cells.old.items at → (cells.new.items ≡ cells.old.items)
-        × IsLesser found (record { nonterminal = nonterminal; rule = slice_index cells.old.items at; other = rule; terminal = terminal }) result }
+        × IsLesser found (record {
+          nonterminal = nonterminal;
+          rule = slice_index cells.old.items at;
+          other = rule;
+          terminal = terminal;
+        }) result }
 {
     let first = cells[at];
     if first == 0 {

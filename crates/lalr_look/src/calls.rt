@@ -17,7 +17,8 @@ fn add_call(g: &Grammar, edges: &mut Vec<Vec<u32>>, i: u32) -> Result<(), NoMemo
     requires inside { i < length g.now.rules }
     requires nodes { length edges.old.items ≡ g.now.nonterminals }
     ensures nodes { OnOk result (length edges.new.items ≡ length edges.old.items) }
-    ensures edge { OnOk result ((k n : ℕ) → Edge (rows_of edges.new.items) k n ↔ (Edge (rows_of edges.old.items) k n ⊎ CallsAt g.now i k n)) }
+    ensures edge { OnOk result ((k n : ℕ) → Edge (rows_of edges.new.items) k n ↔ (Edge
+        (rows_of edges.old.items) k n ⊎ CallsAt g.now i k n)) }
 {
     let one = g.rule(i);
     let Some(symbol) = one.symbol(0) else {
@@ -34,7 +35,8 @@ fn add_call(g: &Grammar, edges: &mut Vec<Vec<u32>>, i: u32) -> Result<(), NoMemo
 fn call_edges(alloc: Global, g: &Grammar) -> Result<Vec<Vec<u32>>, NoMemory>
     requires grammar { IsGrammar g.now }
     ensures nodes { IfOk result (λ edges. length edges.items ≡ g.now.nonterminals) }
-    ensures edges { IfOk result (λ edges. (k n : ℕ) → Edge (rows_of edges.items) k n ↔ CallsFirst g.now (length g.now.rules) k n) }
+    ensures edges { IfOk result (λ edges. (k n : ℕ) → Edge (rows_of edges.items) k n
+        ↔ CallsFirst g.now (length g.now.rules) k n) }
 {
     let mut edges = no_rows(alloc, g.nonterminals)?;
     for i in 0..g.size() {
@@ -48,7 +50,8 @@ pub fn calls_of(alloc: Global, g: &Grammar) -> Result<Vec<Bits>, NoMemory>
     requires grammar { IsGrammar g.now }
     ensures sets { IfOk result (λ calls. length calls.items ≡ g.now.nonterminals) }
     ensures sizes { IfOk result (λ calls. (size : ℕ) × All (λ set. set.size ≡ size) calls.items) }
-    ensures calls { IfOk result (λ calls. (m n : ℕ) → m < g.now.nonterminals → Has (set_at calls.items m) n ↔ Calls g.now m n) }
+    ensures calls { IfOk result (λ calls. (m n : ℕ) → m < g.now.nonterminals
+        → Has (set_at calls.items m) n ↔ Calls g.now m n) }
 {
     let edges = call_edges(alloc, g)?;
     let mut sets = own_sets(alloc, g.nonterminals)?;

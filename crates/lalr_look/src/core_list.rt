@@ -20,7 +20,11 @@ impl Model for Cores {
 
     ghost Value = { CoreList };
 
-    ghost view = { λ made. record { items = map (λ row. row.items) made.items.items; moves = map (λ row. row.items) made.moves.items } };
+    ghost view = { λ made. record {
+      items = map (λ row. row.items) made.items.items;
+      moves = map
+          (λ row. row.items) made.moves.items;
+    } };
 }
 
 impl Cores {

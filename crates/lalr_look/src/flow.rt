@@ -40,7 +40,8 @@ pub fn spread(alloc: Global, edges: &Vec<Vec<u32>>, sets: &mut [Bits]) -> Result
     requires few { length sets.old < 2 ^ 32 }
     requires ends { (n m : ℕ) → Edge (rows_of edges.now.items) n m → m < length sets.old }
     requires sizes { (size : ℕ) × All (λ set. set.size ≡ size) sets.old }
-    ensures flows { OnOk result ((n a : ℕ) → Has (set_at sets.new n) a ↔ Flows (rows_of edges.now.items) sets.old n a) }
+    ensures flows { OnOk result ((n a : ℕ) → Has (set_at sets.new n) a ↔ Flows
+        (rows_of edges.now.items) sets.old n a) }
     ensures long { OnOk result (length sets.new ≡ length sets.old) }
     ensures sizes { OnOk result ((size : ℕ) × All (λ set. set.size ≡ size) sets.new) }
 {

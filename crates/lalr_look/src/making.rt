@@ -61,7 +61,8 @@ fn moved(alloc: Global, g: &Grammar, items: &[u32]) -> Result<Vec<Vec<u32>>, NoM
     requires grammar { IsGrammar g.now }
     requires inside { All (IsInside g.now) items.now }
     ensures long { IfOk result (λ rows. length rows.items ≡ g.now.terminals + g.now.nonterminals) }
-    ensures moves { IfOk result (λ rows. (i : ℕ) → Moves g.now items.now i (length items.now) (row_at (rows_of rows.items) i)) }
+    ensures moves { IfOk result (λ rows. (i : ℕ)
+        → Moves g.now items.now i (length items.now) (row_at (rows_of rows.items) i)) }
 {
     let mut rows = no_rows(alloc, g.terminals + g.nonterminals)?;
     for item in items {
@@ -152,8 +153,10 @@ fn add_move(
 ) -> Result<(), NoMemory>
     requires place { i < g.now.terminals + g.now.nonterminals }
     requires few { length kernels.old + 1 < 2 ^ 32 }
-    ensures rows { OnOk result ((items : List ℕ) (first : List (List ℕ)) → Moves g.now items i (length items) kernel.items
-        → Rows g.now items first i kernels.old row.old.items → Rows g.now items first (i + 1) kernels.new row.new.items) }
+    ensures rows { OnOk result ((items : List ℕ) (first : List (List ℕ))
+        → Moves g.now items i (length items) kernel.items
+        → Rows g.now items first i kernels.old row.old.items → Rows g.now items first (i + 1)
+        kernels.new row.new.items) }
     ensures few { OnOk result (length kernels.new ≤ length kernels.old + 1) }
 {
     if kernel.len() == 0 {
@@ -174,7 +177,9 @@ fn moves_of(
     requires grammar { IsGrammar g.now }
     requires inside { All (IsInside g.now) items.now }
     requires few { length kernels.old ≤ 4096 }
-    ensures rows { IfOk result (λ row. Rows g.now items.now kernels.old (g.now.terminals + g.now.nonterminals) kernels.new row.items) }
+    ensures rows { IfOk result
+        (λ row. Rows g.now items.now kernels.old (g.now.terminals + g.now.nonterminals)
+        kernels.new row.items) }
 {
     let mut moved_items = moved(alloc, g, items)?;
     let mut row = Vec::new(alloc);

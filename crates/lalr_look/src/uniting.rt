@@ -49,7 +49,8 @@ fn add_nodes(
     requires rules { All (λ item. item.0 ≤ length g.now.rules) items.now }
     requires dots { All (λ item. item.1 ≤ 1048576) items.now }
     ensures kept { OnOk result ((node : ℕ × ℕ) → Contains nodes.old node → Contains nodes.new node) }
-    ensures all { OnOk result ((r d : ℕ) → Contains items.now (r, d) → Contains nodes.new (core, slot_of g.now r d)) }
+    ensures all { OnOk result ((r d : ℕ) → Contains items.now (r, d)
+        → Contains nodes.new (core, slot_of g.now r d)) }
 {
     for item in items {
         let (rule, dot) = *item;
@@ -80,7 +81,8 @@ fn targets_of(alloc: Global, g: &Grammar, moves: &[(Sym, u32)]) -> Result<Vec<u3
     requires symbols { All (λ m. IsSymbol g.now m.0) moves.now }
     requires one { (x : Sym) (o m : ℕ) → Contains moves.now (x, o) → Contains moves.now (x, m) → o ≡ m }
     ensures long { IfOk result (λ targets. length targets.items ≡ g.now.terminals + g.now.nonterminals) }
-    ensures targets { IfOk result (λ targets. (x : Sym) (o : ℕ) → Contains moves.now (x, o) → slice_get targets.items (place_of g.now x) ≡ Some o) }
+    ensures targets { IfOk result (λ targets. (x : Sym) (o : ℕ) → Contains moves.now (x, o)
+        → slice_get targets.items (place_of g.now x) ≡ Some o) }
 {
     let mut targets = vec![in alloc; 0u32; (g.terminals + g.nonterminals) as usize]?;
     for found in moves {
@@ -107,7 +109,8 @@ fn add_rest(
     requires rule { rule ≤ length g.now.rules }
     requires node { node < length sets.old.items }
     requires sizes { All (λ set. set.size ≡ g.now.terminals + 1) sets.old.items }
-    ensures sets { SetsGrow sets.old.items sets.new.items (λ k a. (k ≡ node) × First g.now (rest_of g.now rule from) a) }
+    ensures sets { SetsGrow sets.old.items sets.new.items (λ k a. (k ≡ node) × First g.now
+        (rest_of g.now rule from) a) }
     ensures vanish { IsTrue result ↔ Nullable g.now (rest_of g.now rule from) }
 {
     let set = &mut sets[node as usize];
@@ -228,8 +231,10 @@ fn graph_of(
     requires rests { AreRests g.now rests.now }
     requires nodes { AreNodes g.now cores.now nodes.now }
     ensures sized { IfOk result (IsSized (length nodes.now) (g.now.terminals + 1)) }
-    ensures edges { IfOk result (λ graph. (k j : ℕ) → Edge (rows_of graph.edges.items) k j ↔ Leads g.now cores.now nodes.now k j) }
-    ensures own { IfOk result (λ graph. (k a : ℕ) → InSet graph.sets.items k a ↔ Own g.now cores.now nodes.now k a) }
+    ensures edges { IfOk result (λ graph. (k j : ℕ) → Edge (rows_of graph.edges.items) k j
+        ↔ Leads g.now cores.now nodes.now k j) }
+    ensures own { IfOk result (λ graph. (k a : ℕ) → InSet graph.sets.items k a
+        ↔ Own g.now cores.now nodes.now k a) }
 {
     let mut graph = Graph::new(alloc, nodes.len(), g.terminals + 1)?;
     let start = nodes.find((0, 0));

@@ -81,7 +81,8 @@ pub fn parse_ll<T: LlTable, K: Tokens>(
 
 /// Takes the token from the stack, and says whether its terminal is on top.
 fn take(token: TokenRef, stack: &mut Vec<Entry>, steps: &mut Vec<Step>) -> Result<bool, NoMemory>
-    ensures { IfOk result (λ taken. Takes token (entries stack.old) steps.old.items (entries stack.new) steps.new.items taken) }
+    ensures { IfOk result (λ taken. Takes token (entries stack.old) steps.old.items
+        (entries stack.new) steps.new.items taken) }
 {
     match stack.pop() {
         Some(Entry::Find(Sym::T(t))) => {
@@ -102,7 +103,8 @@ fn expand<T: LlTable>(
     requires table { IsLlTable (T.grammar table.now) (T.falling table.now) (T.answer table.now) }
     requires terminal { t ≤ (T.grammar table.now).terminals }
     requires reached { IsReached (T.grammar table.now) (entries stack.old) }
-    ensures { IfOk result (λ more. Expands (T.grammar table.now) t (entries stack.old) steps.old.items (entries stack.new) steps.new.items more) }
+    ensures { IfOk result (λ more. Expands (T.grammar table.now) t
+        (entries stack.old) steps.old.items (entries stack.new) steps.new.items more) }
 {
     'turns: loop {
         match one_turn(table, t, stack, steps)? {

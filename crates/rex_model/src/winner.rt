@@ -91,8 +91,10 @@ fn longer(best: Option<Best>, rule: u32, found: Option<Pair>) -> Option<Best>
 
 /// What a scan answers where this rule wins in the state, and `to` is the place after its text.
 fn scan_of(rule: &ScanRule, number: u32, to: usize, state: u32) -> Scan
-    ensures token { IsSome rule.now.token → result ≡ Scan.Token number to (next_state (rule_of rule.now) state) }
-    ensures skip { rule.now.token ≡ None → result ≡ Scan.Skip number to (next_state (rule_of rule.now) state) }
+    ensures token { IsSome rule.now.token
+        → result ≡ Scan.Token number to (next_state (rule_of rule.now) state) }
+    ensures skip { rule.now.token ≡ None
+        → result ≡ Scan.Skip number to (next_state (rule_of rule.now) state) }
 {
     let state = rule.next.unwrap_or(state);
     match rule.token {

@@ -40,7 +40,8 @@ fn winner(tables: &ScanTables, state: u32, rest: &[u8]) -> Option<Found>
     requires gives { (rules : List Rule) × GivesWinners (tables_of tables.now) rules }
     requires state { state < length (tables_of tables.now).starts }
     ensures { MatchOption result
-        ((rules : List Rule) → GivesWinners (tables_of tables.now) rules → HasNoCandidate rules state rest.now)
+        ((rules : List Rule) → GivesWinners (tables_of tables.now) rules
+        → HasNoCandidate rules state rest.now)
         (λ found. IsWon (tables_of tables.now) state rest.now found.rule found.len) }
 {
     known_bytes(rest);

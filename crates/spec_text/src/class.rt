@@ -43,7 +43,8 @@ pub fn set_at(bytes: &[u8]) -> Option<([u64; 4], &[u8])>
 /// The span with which the bytes begin, and what follows it. A single character is a span of one
 /// byte.
 fn span_of(bytes: &[u8]) -> Option<(u8, u8, &[u8])>
-    ensures { MatchOption result (HasNoSpan bytes.now) (λ found. BeginsSpan bytes.now found.0 found.1 found.2.now) }
+    ensures { MatchOption result (HasNoSpan bytes.now) (λ found.
+        BeginsSpan bytes.now found.0 found.1 found.2.now) }
 {
     let (low, after) = char_of(bytes)?;
     let Some(behind) = after_dash(after) else {

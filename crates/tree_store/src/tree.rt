@@ -56,9 +56,11 @@ impl Model for Tree {
 
     ghost use Rattle.tree_store.specs.Links.{nodes_from, label_of, IsLinkedTree};
 
-    ghost view = { λ t. nodes_from t.nexts.items (map (label_of t.fields.items) t.labels.items) t.firsts.items };
+    ghost view = { λ t. nodes_from t.nexts.items (map (label_of t.fields.items) t.labels.items)
+        t.firsts.items };
 
-    ghost invariant = { λ t. IsLinkedTree t.labels.items t.fields.items t.parents.items t.numbers.items t.firsts.items t.nexts.items };
+    ghost invariant = { λ t. IsLinkedTree t.labels.items t.fields.items
+        t.parents.items t.numbers.items t.firsts.items t.nexts.items };
 }
 
 impl Tree {

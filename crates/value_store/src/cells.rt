@@ -27,9 +27,13 @@ impl Model for Cells {
 
     ghost Value = { Store };
 
-    ghost view = { λ s. record { units = s.units.items; spare = vec_capacity s.units - length s.units.items } };
+    ghost view = { λ s. record {
+      units = s.units.items;
+      spare = vec_capacity s.units - length s.units.items;
+    } };
 
-    ghost invariant = { λ s. (i : ℕ) (u : _) → slice_get s.units.items i ≡ Some u → Says (cells_of s.units.items) (i + 1) u };
+    ghost invariant = { λ s. (i : ℕ) (u : _) → slice_get s.units.items i ≡ Some u
+        → Says (cells_of s.units.items) (i + 1) u };
 }
 
 impl Cells {
