@@ -1,10 +1,11 @@
 -- What an expression of the program means.
-use Rattle.std.specs.Prelude.{ℕ, List, [], ◌∷◌, map, Bool}
+use Rattle.std.specs.Prelude.{ℕ, List, [], ◌∷◌, map, Bool, Option, MatchOption}
 use Rattle.value_store.specs.Texts.{text_of}
 use Rattle.value_store.specs.declared.text.Text.{Text}
+use Rattle.value_store.specs.declared.value.ValType.{ValType}
 use Rattle.value_store.specs.declared.text.Texts.{Texts}
 use Rattle.expr_lang.specs.Expression.{Expression, Expressions, number, truth, string, var, negative, negated, binary, if_then, call, make, no_expressions, and_expression}
-use Rattle.expr_lang.specs.Typing.{Context}
+use Rattle.expr_lang.specs.Typing.{Context, HasType}
 use Rattle.expr_lang.specs.ValueOf.{Tokens}
 use Rattle.expr_lang.specs.declared.expr.Scope.{Scope}
 use Rattle.expr_lang.specs.declared.expr.Expr.{Expr}
@@ -49,3 +50,10 @@ meant_all texts es = expressions_of (map (meaning texts.source.now texts.literal
 -- the tokens whose spans lie in these texts
 abbrev pub tokens_in : Texts → List Text → List (ℕ × ℕ) → Tokens
 tokens_in texts spans places = tokens_of texts.source.now texts.literals.now spans places
+
+-- the type that was found is one of the expression; None where it has none. Whatever texts its strings
+-- lie in and whichever families are of the source tree, the answer is the same
+abbrev pub IsTypeOf : Scope → Expr → Option ValType → Type 0
+IsTypeOf scope e found = (source literals : List ℕ) (sources : ℕ → Bool)
+    → MatchOption found ((t : ValType) → HasType (context_of scope sources) (meaning source literals e) t → ⊥)
+    (HasType (context_of scope sources) (meaning source literals e))

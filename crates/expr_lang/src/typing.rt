@@ -1,6 +1,6 @@
 ghost use Rattle.std.specs.Prelude.{◌≡◌, ℕ, map, List, Bool, length, take, MatchOption, ◌↔◌, ◌≤◌, ◌<◌, IsTrue, slice_get, Some, None};
 ghost use Rattle.expr_lang.specs.Typing.{HasType, HaveTypes, Takes, takes, gives, maker_of};
-ghost use Rattle.expr_lang.specs.Meaning.{meaning, expressions_of, context_of};
+ghost use Rattle.expr_lang.specs.Meaning.{IsTypeOf, meaning, expressions_of, context_of};
 ghost use Rattle.value_store.specs.declared.value.ValType.{ValType};
 ghost use Rattle.value_store.specs.declared.value.ValType.TheVariants as ty;
 
@@ -11,9 +11,7 @@ use value_store::ValType;
 /// strings lie in and whichever families are of the source tree, the answer is the same.
 #[cycle(typed)]
 pub fn typed(e: &Expr, scope: &Scope) -> Option<ValType>
-    ensures { (source literals : List ℕ) (sources : ℕ → Bool)
-        → let context = context_of scope.now sources in let e' = meaning source literals e.now in
-        MatchOption result ((t : ValType) → HasType context e' t → ⊥) (HasType context e') }
+    ensures { IsTypeOf scope.now e.now result }
 {
     match e {
         Expr::Int(_) => Some(ValType::Int),
