@@ -13,7 +13,7 @@
 //! | sets, moves and marks as an automaton | `src/table.rt`; `specs/within/Parts.antt` |
 //! | the main automaton of the rules | `src/main_table.rt`; `specs/within/Main.antt` |
 //! | the two automata of a split; all splits | `src/parts.rt`, `src/halves.rt`, `src/splitting.rt`; `specs/within/Splits.antt` |
-//! | a mark comes next exactly after the words | `proofs/MarkedWords.antt`, `proofs/MarkedRules.antt`, `proofs/BackwardWords.antt` |
+//! | a mark comes next exactly after the words | `src/laws.rt`; `proofs/MarkedWords.antt`, `proofs/MarkedRules.antt`, `proofs/BackwardWords.antt` |
 //! | automata that accept so give the winners | `proofs/WinnersOfTables.antt` |
 #![tactic(auto)]
 
@@ -21,6 +21,7 @@ mod alike;
 mod building;
 mod fault;
 mod halves;
+mod laws;
 mod main_table;
 mod marking;
 mod part_rows;
@@ -34,3 +35,4 @@ mod table;
 
 pub use building::build;
 pub use fault::DfaError;
+pub use laws::{mark_follows_reversed_words, mark_follows_words};
