@@ -7,6 +7,7 @@
 //! | how a case is run and judged | `src/running.rt`, `src/judging.rt` |
 //! | cases that are made | `src/made.rt` |
 //! | edges of std: the disk, a writer that is full | `src/disk.rt` |
+//! | the plain scanner and the one by tables | `src/scanners.rt` |
 //! | calls that want memory and that no case reaches | `src/ample.rt` |
 #![tactic(auto)]
 
@@ -18,6 +19,7 @@ mod judging;
 mod made;
 mod reading;
 mod running;
+mod scanners;
 
 use anyhow::{Context, Result, bail};
 use judging::{Tally, judge};
@@ -44,6 +46,7 @@ fn main(rt: HostRuntime) -> Result<()> {
     }
     made::judge_all(&rt, &mut tally)?;
     disk::try_edges(&rt)?;
+    scanners::try_scanners(&rt)?;
     ample::call_all(rt.alloc())?;
     println!(rt; "{} cases hold", tally.held)?;
     if tally.differ > 0 {
