@@ -137,7 +137,8 @@ fn put_behind(symbol: Sym, trailer: &Bits, rows: &mut Vec<Bits>, count: u32, wid
     requires rows { AreRows count width rows.old.items }
     requires trailer { trailer.now.size ≡ width }
     ensures rows { AreRows count width rows.new.items }
-    ensures joined { JoinsRows rows.old.items rows.new.items (λ m t. (symbol ≡ N m) × Has trailer.now t) }
+    ensures joined { JoinsRows rows.old.items rows.new.items
+        (λ m t. (symbol ≡ N m) × Has trailer.now t) }
 {
     if let Sym::N(n) = symbol {
         join_row(rows, n, trailer);
@@ -158,7 +159,8 @@ fn put_before(
     requires firsts { AreRows count width firsts.now }
     requires trailer { trailer.old.size ≡ width }
     ensures trailer { trailer.new.size ≡ width }
-    ensures begins { (t : ℕ) → Has trailer.new t ↔ Fronted firsts.now null.now symbol (Has trailer.old) t }
+    ensures begins { (t : ℕ) → Has trailer.new t
+        ↔ Fronted firsts.now null.now symbol (Has trailer.old) t }
     ensures vanish { IsTrue result ↔ (Passes false (Has null.now) symbol × IsTrue vanish) }
 {
     match symbol {

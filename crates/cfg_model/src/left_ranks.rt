@@ -57,7 +57,8 @@ fn ranks_of(alloc: Global, rows: &[Bits], count: u32) -> Result<Vec<u16>, NoMemo
 
 /// For each number whether it is in the set.
 fn flags(alloc: Global, set: &Bits) -> Result<Vec<bool>, NoMemory>
-    ensures { IfOk result (λ flags. (n : ℕ) → IsTrue (slice_index_or flags.items n false) ↔ Has set.now n) }
+    ensures { IfOk result (λ flags. (n : ℕ)
+        → IsTrue (slice_index_or flags.items n false) ↔ Has set.now n) }
 {
     let mut flags = Vec::new(alloc);
     for n in 0..set.size() {

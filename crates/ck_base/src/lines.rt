@@ -120,7 +120,8 @@ fn lalr_conflict(
     rule: &Name,
     other: &Option<Name>,
 ) -> Result<Vec<u8>, NoMemory>
-    ensures { IfOk result (λ text. text.items ≡ line_of (LalrConflict terminal.now rule.now other.now)) }
+    ensures { IfOk result (λ text.
+        text.items ≡ line_of (LalrConflict terminal.now rule.now other.now)) }
 {
     let (terminal, rule) = (terminal.bytes(), rule.bytes());
     match other {
@@ -229,7 +230,8 @@ fn named(alloc: Global, before: &[u8], name: &Name, after: &[u8]) -> Result<Vec<
 
 /// A line on a target of a type or family.
 fn targeted(alloc: Global, before: &[u8], holder: &Name, target: &Name) -> Result<Vec<u8>, NoMemory>
-    ensures { IfOk result (λ text. text.items ≡ before.now ++ (holder.now ++ (codes ": " ++ target.now))) }
+    ensures { IfOk result (λ text.
+        text.items ≡ before.now ++ (holder.now ++ (codes ": " ++ target.now))) }
 {
     joined(alloc, &[before, holder.bytes(), b": ", target.bytes()])
 }

@@ -36,7 +36,8 @@ impl NeverFails {
     /// Gives the name these bytes, in place of any that it had.
     pub fn add(&mut self, name: &str, bytes: &[u8]) -> Result<(), NoMemory>
         ensures added { OnOk result
-            (AddsFile (contents_or_empty self.old) (contents_or_empty self.new) name.now bytes.now) }
+            (AddsFile (contents_or_empty self.old) (contents_or_empty self.new)
+            name.now bytes.now) }
         ensures err { OnErr result (self.new ≡ self.old) }
     {
         self.folder.put(name, bytes)?;

@@ -36,7 +36,8 @@ pub(crate) fn fill(
     requires lefts { All (λ rule. rule.left < count) rules.now }
     requires widths { All (λ set. set.size ≡ width) sets.now }
     ensures { IfOk result (λ made. (length made.cells.items ≡ count * width)
-        × Filled (Seen rules.now sets.now (length rules.now) 0) (cell_at width made.cells.items) made.found) }
+        × Filled (Seen rules.now sets.now (length rules.now) 0)
+        (cell_at width made.cells.items) made.found) }
 {
     let mut cells = vec![in alloc; 0u16; count as usize * width as usize]?;
     let mut found = None;

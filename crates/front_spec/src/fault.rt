@@ -175,7 +175,8 @@ fn with(counts: Counts, says: &Says<'_, '_>) -> Counts
     requires states { counts.states ≤ 64 }
     requires positions { counts.positions ≤ 4096 }
     ensures states { result.states ≡ counts.states + length (add_state (saying says.now) []) }
-    ensures positions { IsCount result.positions (counts.positions + positions_of (saying says.now)) }
+    ensures positions { IsCount result.positions
+        (counts.positions + positions_of (saying says.now)) }
 {
     match says {
         Says::State(_) => Counts {

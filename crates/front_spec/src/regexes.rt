@@ -178,7 +178,8 @@ fn leaf<'a, 't, 's>(
         ((w : Written) (rest : List Lexeme) → Leaf (map seen tokens.now) w rest → ⊥)
         (λ read. Leaf (map seen tokens.now) (record { re = meaning read.0; nesting = 1 })
         (map seen read.1.now))) }
-    ensures fits { IfOk result (λ found. IfSome found (λ read. length read.1.now < length tokens.now)) }
+    ensures fits { IfOk result
+        (λ found. IfSome found (λ read. length read.1.now < length tokens.now)) }
 {
     let Some((first, rest)) = tokens.split_first() else {
         return Ok(None);

@@ -62,7 +62,8 @@ pub fn spread(alloc: Global, edges: &Vec<Vec<u32>>, sets: &mut [Bits]) -> Result
 pub fn own_sets(alloc: Global, n: u32) -> Result<Vec<Bits>, NoMemory>
     ensures long { IfOk result (λ sets. length sets.items ≡ n) }
     ensures sizes { IfOk result (λ sets. All (λ set. set.size ≡ n) sets.items) }
-    ensures own { IfOk result (λ sets. (m a : ℕ) → Has (set_at sets.items m) a ↔ ((m < n) × (a ≡ m))) }
+    ensures own { IfOk result (λ sets. (m a : ℕ)
+        → Has (set_at sets.items m) a ↔ ((m < n) × (a ≡ m))) }
 {
     let mut sets = Vec::new(alloc);
     for m in 0..n {

@@ -20,7 +20,8 @@ impl Graph {
     /// So many nodes without edges and numbers, with room for the numbers below `size`.
     pub fn new(alloc: Global, nodes: u32, size: u32) -> Result<Graph, NoMemory>
         ensures sized { IfOk result (IsSized nodes size) }
-        ensures edges { IfOk result (λ graph. (k j : ℕ) → Edge (rows_of graph.edges.items) k j → ⊥) }
+        ensures edges { IfOk result
+            (λ graph. (k j : ℕ) → Edge (rows_of graph.edges.items) k j → ⊥) }
         ensures sets { IfOk result (λ graph. (k a : ℕ) → InSet graph.sets.items k a → ⊥) }
     {
         let edges = no_rows(alloc, nodes)?;

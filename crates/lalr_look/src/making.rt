@@ -47,7 +47,8 @@ fn sort_in(g: &Grammar, item: u32, rows: &mut Vec<Vec<u32>>) -> Result<(), NoMem
     requires inside { IsInside g.now item }
     requires rows { length rows.old.items ≡ g.now.terminals + g.now.nonterminals }
     ensures long { OnOk result (length rows.new.items ≡ length rows.old.items) }
-    ensures sorted { OnOk result (Sorts g.now item (rows_of rows.old.items) (rows_of rows.new.items)) }
+    ensures sorted { OnOk result
+        (Sorts g.now item (rows_of rows.old.items) (rows_of rows.new.items)) }
 {
     let Some(symbol) = g.behind(item % 2048, item / 2048) else {
         return Ok(());
@@ -77,7 +78,8 @@ fn call_from(g: &Grammar, calls: &[Bits], called: &mut Bits, item: u32)
     requires inside { IsInside g.now item }
     requires sets { length calls.now ≡ g.now.nonterminals }
     requires sizes { All (λ set. set.size ≡ called.old.size) calls.now }
-    requires calls { (m n : ℕ) → m < g.now.nonterminals → Has (set_at calls.now m) n ↔ Calls g.now m n }
+    requires calls { (m n : ℕ) → m < g.now.nonterminals
+        → Has (set_at calls.now m) n ↔ Calls g.now m n }
     ensures { Adds called.old called.new (CalledAt g.now item) }
 {
     if let Some(symbol) = g.behind(item % 2048, item / 2048) {
@@ -93,7 +95,8 @@ fn called_by(alloc: Global, g: &Grammar, calls: &[Bits], front: &[u32]) -> Resul
     requires inside { All (IsInside g.now) front.now }
     requires sets { length calls.now ≡ g.now.nonterminals }
     requires sizes { (size : ℕ) × All (λ set. set.size ≡ size) calls.now }
-    requires calls { (m n : ℕ) → m < g.now.nonterminals → Has (set_at calls.now m) n ↔ Calls g.now m n }
+    requires calls { (m n : ℕ) → m < g.now.nonterminals
+        → Has (set_at calls.now m) n ↔ Calls g.now m n }
     ensures { IfOk result (λ called. (n : ℕ) → Has called n ↔ CalledBy g.now front.now n) }
 {
     let mut called = Bits::new(alloc, calls[0].size())?;
@@ -106,7 +109,8 @@ fn called_by(alloc: Global, g: &Grammar, calls: &[Bits], front: &[u32]) -> Resul
 /// Puts in the rules of the called nonterminals, with their dot in front.
 fn open_rules(g: &Grammar, called: &Bits, items: &mut Vec<u32>) -> Result<(), NoMemory>
     requires grammar { IsGrammar g.now }
-    ensures { OnOk result (Opens g.now called.now items.old.items (length g.now.rules) items.new.items) }
+    ensures { OnOk result (Opens g.now called.now items.old.items
+        (length g.now.rules) items.new.items) }
 {
     for i in 0..g.size() {
         if called.has(g.rule(i).left) {
@@ -127,7 +131,8 @@ fn items_of(
     requires inside { All (IsInside g.now) kernel.now }
     requires sets { length calls.now ≡ g.now.nonterminals }
     requires sizes { (size : ℕ) × All (λ set. set.size ≡ size) calls.now }
-    requires calls { (m n : ℕ) → m < g.now.nonterminals → Has (set_at calls.now m) n ↔ Calls g.now m n }
+    requires calls { (m n : ℕ) → m < g.now.nonterminals
+        → Has (set_at calls.now m) n ↔ Calls g.now m n }
     ensures { IfOk result (λ items. IsOpened g.now kernel.now items.items) }
 {
     let mut items = Vec::new(alloc);
@@ -224,7 +229,8 @@ fn add_core(
     requires short { AreShort g.now }
     requires sets { length calls.now ≡ g.now.nonterminals }
     requires sizes { (size : ℕ) × All (λ set. set.size ≡ size) calls.now }
-    requires calls { (m n : ℕ) → m < g.now.nonterminals → Has (set_at calls.now m) n ↔ Calls g.now m n }
+    requires calls { (m n : ℕ) → m < g.now.nonterminals
+        → Has (set_at calls.now m) n ↔ Calls g.now m n }
     requires known { n < length kernels.old }
     requires next { n ≡ length made.old.items }
     requires few { length kernels.old ≤ 4096 }

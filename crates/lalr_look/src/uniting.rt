@@ -48,7 +48,8 @@ fn add_nodes(
     requires grammar { IsGrammar g.now }
     requires rules { All (λ item. item.0 ≤ length g.now.rules) items.now }
     requires dots { All (λ item. item.1 ≤ 1048576) items.now }
-    ensures kept { OnOk result ((node : ℕ × ℕ) → Contains nodes.old node → Contains nodes.new node) }
+    ensures kept { OnOk result
+        ((node : ℕ × ℕ) → Contains nodes.old node → Contains nodes.new node) }
     ensures all { OnOk result ((r d : ℕ) → Contains items.now (r, d)
         → Contains nodes.new (core, slot_of g.now r d)) }
 {
@@ -79,8 +80,10 @@ fn nodes_of(alloc: Global, g: &Grammar, cores: &Cores) -> Result<Nodes, NoMemory
 fn targets_of(alloc: Global, g: &Grammar, moves: &[(Sym, u32)]) -> Result<Vec<u32>, NoMemory>
     requires grammar { IsGrammar g.now }
     requires symbols { All (λ m. IsSymbol g.now m.0) moves.now }
-    requires one { (x : Sym) (o m : ℕ) → Contains moves.now (x, o) → Contains moves.now (x, m) → o ≡ m }
-    ensures long { IfOk result (λ targets. length targets.items ≡ g.now.terminals + g.now.nonterminals) }
+    requires one { (x : Sym) (o m : ℕ) → Contains moves.now (x, o) → Contains moves.now (x, m)
+        → o ≡ m }
+    ensures long { IfOk result
+        (λ targets. length targets.items ≡ g.now.terminals + g.now.nonterminals) }
     ensures targets { IfOk result (λ targets. (x : Sym) (o : ℕ) → Contains moves.now (x, o)
         → slice_get targets.items (place_of g.now x) ≡ Some o) }
 {
@@ -167,7 +170,8 @@ fn add_item(
     requires targets { AreTargets g.now cores.now core targets.now }
     requires graph { IsSized (length nodes.now) (g.now.terminals + 1) graph.old }
     requires item { Contains (items_at cores.now core) item }
-    ensures { OnOk result (Grows graph.old graph.new (LeadsBy g.now cores.now nodes.now core item.0 item.1)
+    ensures { OnOk result (Grows graph.old graph.new
+        (LeadsBy g.now cores.now nodes.now core item.0 item.1)
         (OwnBy g.now nodes.now core item.0 item.1)) }
 {
     let (rule, dot) = item;
@@ -267,10 +271,12 @@ fn looks_of(
     requires grammar { IsGrammar g.now }
     requires rules { All (λ item. item.0 ≤ length g.now.rules) items.now }
     requires dots { All (λ item. item.1 ≤ 1048576) items.now }
-    requires nodes { (r d : ℕ) → Contains items.now (r, d) → Contains nodes.now (core, slot_of g.now r d) }
+    requires nodes { (r d : ℕ) → Contains items.now (r, d)
+        → Contains nodes.now (core, slot_of g.now r d) }
     requires sets { length sets.now ≡ length nodes.now }
     ensures long { IfOk result (λ looks. length looks.items ≡ length items.now) }
-    ensures sets { IfOk result (λ looks. (i r d : ℕ) (set : BitSet) → slice_get items.now i ≡ Some (r, d)
+    ensures sets { IfOk result
+        (λ looks. (i r d : ℕ) (set : BitSet) → slice_get items.now i ≡ Some (r, d)
         → slice_get looks.items i ≡ Some set → IsNodeSet g.now nodes.now sets.now core r d set) }
 {
     let mut looks = Vec::new(alloc);
@@ -298,7 +304,8 @@ fn all_looks(
     requires few { length cores.now.items ≤ 4096 }
     requires nodes { AreNodes g.now cores.now nodes.now }
     requires sets { length sets.now ≡ length nodes.now }
-    ensures { IfOk result (λ looks. AreNodeSets g.now cores.now nodes.now sets.now (sets_of looks.items)) }
+    ensures { IfOk result (λ looks. AreNodeSets g.now cores.now nodes.now sets.now
+        (sets_of looks.items)) }
 {
     let mut looks = Vec::new(alloc);
     for core in 0..cores.len() {

@@ -160,14 +160,16 @@ fn top_of(stack: &Vec<Entry>) -> Option<Entry>
 
 /// Takes the entry on top off.
 fn drop_top(stack: &mut Vec<Entry>)
-    ensures { (x : Entry) (rest : List Entry) → entries stack.old ≡ x ∷ rest → entries stack.new ≡ rest }
+    ensures { (x : Entry) (rest : List Entry) → entries stack.old ≡ x ∷ rest
+        → entries stack.new ≡ rest }
 {
     stack.pop();
 }
 
 /// Puts the rule's right side on the stack, and what ends it below.
 fn push_rule(stack: &mut Vec<Entry>, rule: u32, right: &[Sym]) -> Result<(), NoMemory>
-    ensures { IfOk result (λ _. entries stack.new ≡ finding right.now ++ (Done rule ∷ entries stack.old)) }
+    ensures { IfOk result (λ _. entries stack.new
+        ≡ finding right.now ++ (Done rule ∷ entries stack.old)) }
 {
     stack.push(Entry::Done(rule))?;
     let mut i = right.len();

@@ -23,7 +23,8 @@ pub(crate) fn positions_of_rule(rule: &ScanRule) -> u32
 /// Adds the positions that come directly after position `p` of the rule. Its positions are numbered
 /// from `k`.
 pub(crate) fn follow_in_rule(rule: &ScanRule, k: u32, p: u32, to: &mut Bits)
-    requires room { k + position_count (marked (body_and_context (rule_of rule.now))) ≤ to.old.size }
+    requires room { k + position_count (marked (body_and_context (rule_of rule.now)))
+        ≤ to.old.size }
     requires fits { to.old.size < 2 ^ 32 }
     ensures { Adds to.old to.new (Follow (marked (body_and_context (rule_of rule.now))) k p) }
 {
@@ -42,7 +43,8 @@ fn follow_in_context(last: bool, context: &Regex, k: u32, p: u32, to: &mut Bits)
     requires fits { to.old.size < 2 ^ 32 }
     ensures { Adds to.old to.new (λ q.
         (Follow (meaning context.now) k p q ⊎ (IsTrue last × First (meaning context.now) k q))
-        ⊎ ((Last (meaning context.now) k p ⊎ (IsTrue (has_empty (meaning context.now)) × IsTrue last))
+        ⊎ ((Last (meaning context.now) k p
+        ⊎ (IsTrue (has_empty (meaning context.now)) × IsTrue last))
         × (q ≡ k + position_count (meaning context.now)))) }
 {
     let ended = follow(context, k, p, to);
@@ -87,7 +89,8 @@ pub(crate) fn first_of_rules(rules: &[ScanRule], state: u32, to: &mut Bits)
 
 /// Adds the first positions of the rule where it is active in the state.
 fn first_if_active(rule: &ScanRule, state: u32, k: u32, to: &mut Bits)
-    requires room { k + position_count (marked (body_and_context (rule_of rule.now))) ≤ to.old.size }
+    requires room { k + position_count (marked (body_and_context (rule_of rule.now)))
+        ≤ to.old.size }
     requires fits { to.old.size < 2 ^ 32 }
     ensures { Adds to.old to.new (λ q.
         IsTrue ((rule_of rule.now).active state)
@@ -100,7 +103,8 @@ fn first_if_active(rule: &ScanRule, state: u32, k: u32, to: &mut Bits)
 
 /// Adds the first positions of the rule.
 fn first_of_rule(rule: &ScanRule, k: u32, to: &mut Bits)
-    requires room { k + position_count (marked (body_and_context (rule_of rule.now))) ≤ to.old.size }
+    requires room { k + position_count (marked (body_and_context (rule_of rule.now)))
+        ≤ to.old.size }
     requires fits { to.old.size < 2 ^ 32 }
     ensures { Adds to.old to.new (First (marked (body_and_context (rule_of rule.now))) k) }
 {
@@ -141,7 +145,8 @@ pub(crate) fn takers_in_rules(rules: &[ScanRule], byte: u8, to: &mut Bits)
 
 /// The same for one rule.
 fn takers_in_rule(rule: &ScanRule, k: u32, byte: u8, to: &mut Bits)
-    requires room { k + position_count (marked (body_and_context (rule_of rule.now))) ≤ to.old.size }
+    requires room { k + position_count (marked (body_and_context (rule_of rule.now)))
+        ≤ to.old.size }
     requires fits { to.old.size < 2 ^ 32 }
     ensures { Adds to.old to.new (λ p.
         Takes (marked (body_and_context (rule_of rule.now))) k p byte) }

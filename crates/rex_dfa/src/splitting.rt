@@ -51,7 +51,8 @@ fn add_split(
 ) -> Result<Option<u32>, NoMemory>
     requires inside { i < length rules.now }
     requires few { position_count (marked_rules (map rule_of rules.now)) ≤ 4096 }
-    requires splitting { Splitting (map rule_of rules.now) i (map halves_of splits.old.items) total }
+    requires splitting { Splitting (map rule_of rules.now) i
+        (map halves_of splits.old.items) total }
     ensures { IfOk result (λ total. MatchOption total
         (HasMoreSplitSets (map rule_of rules.now) 4096)
         (Splitting (map rule_of rules.now) (i + 1) (map halves_of splits.new.items))) }

@@ -79,7 +79,8 @@ fn best_pair(
     requires behind_room { position_count (meaning context.now) ≤ behind_from.old.size }
     requires behind_fits { behind_from.old.size < 2 ^ 32 }
     requires behind_same { behind_to.old.size ≡ behind_from.old.size }
-    ensures best { IsBestUpTo (meaning body.now) (meaning context.now) text.now (length text.now) result }
+    ensures best { IsBestUpTo (meaning body.now) (meaning context.now) text.now
+        (length text.now) result }
     ensures from_size { from.new.size ≡ from.old.size }
     ensures to_size { to.new.size ≡ to.old.size }
     ensures behind_from_size { behind_from.new.size ≡ behind_from.old.size }

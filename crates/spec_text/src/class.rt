@@ -8,7 +8,8 @@ use crate::bytes::is_line_byte;
 /// The set of bytes that the class lists behind whose `[` the bytes stand, and what follows its
 /// `]`.
 pub fn class_of(bytes: &[u8]) -> Option<([u64; 4], &[u8])>
-    ensures { MatchOption result (HasNoClass bytes.now) (λ found. IsClassOf bytes.now found.0 found.1.now) }
+    ensures { MatchOption result (HasNoClass bytes.now)
+        (λ found. IsClassOf bytes.now found.0 found.1.now) }
 {
     let (low, high, first_rest) = span_of(bytes)?;
     let mut set = [0; 4];
@@ -28,7 +29,8 @@ pub fn class_of(bytes: &[u8]) -> Option<([u64; 4], &[u8])>
 
 /// The set of the class behind whose `[` the bytes stand, and what follows its `]`.
 pub fn set_at(bytes: &[u8]) -> Option<([u64; 4], &[u8])>
-    ensures { MatchOption result (HasNoSet bytes.now) (λ found. IsSetAt bytes.now found.0 found.1.now) }
+    ensures { MatchOption result (HasNoSet bytes.now)
+        (λ found. IsSetAt bytes.now found.0 found.1.now) }
 {
     let (first, after) = bytes.split_first()?;
     if *first == b'^' {
@@ -71,7 +73,8 @@ fn after_dash(bytes: &[u8]) -> Option<&[u8]>
 
 /// The byte that the character of a class means with which the bytes begin, and what follows it.
 fn char_of(bytes: &[u8]) -> Option<(u8, &[u8])>
-    ensures { MatchOption result (HasNoChar bytes.now) (λ found. ClassChar bytes.now found.0 found.1.now) }
+    ensures { MatchOption result (HasNoChar bytes.now)
+        (λ found. ClassChar bytes.now found.0 found.1.now) }
 {
     let (first, after) = bytes.split_first()?;
     if is_class_byte(*first) {

@@ -206,7 +206,8 @@ impl Cells {
     fn find(&self, texts: &Texts, m: u64, wanted: &[u8]) -> Option<i64>
         requires { IsMap (cells_of self.now.units) m }
         ensures { result ≡ first_with wanted.now
-            (entries texts.now.source.now texts.now.literals.now (pairs_at (cells_of self.now.units) m)) }
+            (entries texts.now.source.now texts.now.literals.now
+            (pairs_at (cells_of self.now.units) m)) }
     {
         let mut at = m;
         while at != 0 {
