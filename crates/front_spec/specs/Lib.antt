@@ -4,6 +4,8 @@ pub mod RexFaults
 pub mod RexRules
 pub mod GrammarShapes
 pub mod GrammarFaults
+pub mod GrammarRules
+pub mod GrammarPromise
 pub mod Seen
 pub mod Promise
 pub mod Steps

@@ -12,11 +12,13 @@
 
 mod declaration;
 mod fault;
+mod grammar;
 mod laws;
 mod regexes;
 mod rex;
 mod rule;
 mod rules;
 
+pub use grammar::read_grammar;
 pub use laws::{at_most_one_declaration, at_most_one_regex, fault_or_declarations, one_rex};
 pub use rex::read_rex;
