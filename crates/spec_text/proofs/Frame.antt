@@ -6,8 +6,8 @@ use Rattle.ck_base.specs.declared.fault.SpecFault.{SpecFault}
 use Rattle.ck_base.specs.declared.fault.SpecFault.TheVariants.{Bad, NoMemory}
 use Rattle.spec_text.specs.Lexemes.{Lexeme}
 use Rattle.spec_text.specs.Lines.{Line, said_by}
-use Rattle.spec_text.specs.FirstFault.{Least, Shapeless, of_shape, ExactlyOne}
-use Rattle.spec_text.specs.Declares.{Declared, Notation, kind_of, HasAt, Says, DeclareAll, no_lines, one_line, HasNoShape, HasFault, judged, IsFirstFault, IsFaultOfLine, LinesGrow, Grow}
+use Rattle.spec_text.specs.FirstFault.{Least, Shapeless, FirstFault, of_shape, ExactlyOne}
+use Rattle.spec_text.specs.Declares.{Declared, Notation, kind_of, HasAt, Says, DeclareAll, no_lines, one_line, HasNoShape, HasFault, judged, judged_at, IsFirstFault, IsFaultOfLine, LinesGrow, Grow}
 use Rattle.spec_text.proofs.Lists.{order, take_step, take_get, get_fits}
 use Rattle.spec_text.proofs.OneFault.{IsDetermined, exactly_one}
 
@@ -80,10 +80,11 @@ module _ {S : Type 0} (n : Notation S) where
   declare_more lines i line ds new d at so says are = rw (take_step lines i line at, are) (at_line_end (take i lines) ds line d so says)
 
   -- the first line without a shape
-  pub first_shapeless : (lines : List Line) (i : ℕ) (line : Line) (ds : List (Declared S)) (fault : SpecFault) → LinesGrow lines
-      → slice_get lines i ≡ Some line → DeclareAll n (take i lines) ds → IsFaultOfLine n line fault → IsFirstFault n lines fault
-  first_shapeless lines i line ds (Bad number kind) grow at so is =
-      of_shape number kind (record { is = (kind, here); least = λ m has. by m has.0 has.1 }) here
+  without_shape : (lines : List Line) (i : ℕ) (line : Line) (ds : List (Declared S)) (number : ℕ) (kind : Kind) → LinesGrow lines
+      → slice_get lines i ≡ Some line → DeclareAll n (take i lines) ds → IsFaultOfLine n line (Bad number kind)
+      → Least (Shapeless (judged n lines)) number × HasNoShape n lines number kind
+  without_shape lines i line ds number kind grow at so is =
+      (record { is = (kind, here); least = λ m has. by m has.0 has.1 }, here)
     where
       here : HasNoShape n lines number kind
       here = record { place = i; line = line; is = at; number_is = is.0; none = is.2; is_kind = is.1 }
@@ -96,7 +97,19 @@ module _ {S : Type 0} (n : Notation S) where
           on (inr (inl less)) = let more = grow i has.place line has.line at has.is less in let x = is.0 in let y = has.number_is in omega (arith, more, x, y)
           on (inr (inr same)) = let one : has.line ≡ line = (let a = rw same at has.is in let b = sym a ∙ at in cc) in
               let x = is.0 in let y = has.number_is ∙ ap (λ l. l.number) one in omega (arith, x, y)
+
+  pub first_shapeless : (lines : List Line) (i : ℕ) (line : Line) (ds : List (Declared S)) (fault : SpecFault) → LinesGrow lines
+      → slice_get lines i ≡ Some line → DeclareAll n (take i lines) ds → IsFaultOfLine n line fault → IsFirstFault n lines fault
+  first_shapeless lines i line ds (Bad number kind) grow at so is =
+      let both = without_shape lines i line ds number kind grow at so is in of_shape number kind both.0 both.1
   first_shapeless lines i line ds NoMemory grow at so is = tt
+
+  -- it is the first fault where the section may have one at the line of its head too
+  pub first_shapeless_at : (head : ℕ) (AtHead : List (Declared S) → Kind → Type 0) (lines : List Line) (i : ℕ) (line : Line) (ds : List (Declared S))
+      (number : ℕ) (kind : Kind) → LinesGrow lines → slice_get lines i ≡ Some line → DeclareAll n (take i lines) ds
+      → IsFaultOfLine n line (Bad number kind) → FirstFault (judged_at n head AtHead lines) number kind
+  first_shapeless_at head AtHead lines i line ds number kind grow at so is =
+      let both = without_shape lines i line ds number kind grow at so is in of_shape number kind both.0 both.1
 
   -- where a line has one shape at most, exactly one of fault and declarations is there
   module _ (one_shape : (tokens : List Lexeme) (a b : S) → n.Shape tokens a → n.Shape tokens b → a ≡ b) where
@@ -155,3 +168,9 @@ module _ {S : Type 0} (n : Notation S) where
 
     pub one_of_both : (lines : List Line) → LinesGrow lines → ExactlyOne (judged n lines)
     one_of_both lines grow = exactly_one (judged n lines) (determined lines (HasFault n) grow)
+
+    -- the same, where the section may have a fault at the line of its head too
+    pub one_of_both_at : (head : ℕ) (AtHead : List (Declared S) → Kind → Type 0) (lines : List Line) → LinesGrow lines
+        → ExactlyOne (judged_at n head AtHead lines)
+    one_of_both_at head AtHead lines grow =
+        exactly_one (judged_at n head AtHead lines) (determined lines (λ ds kind line. HasFault n ds kind line ⊎ ((line ≡ head) × AtHead ds kind)) grow)
