@@ -9,5 +9,11 @@ mod OneSaying
 mod Passes
 mod MadeRules
 mod ReadRex
+mod Productions
+mod ProductionPasses
+pub mod MadeGrammar
+mod ReadGrammar
 pub mod OneRex
+pub mod OneGrammar
 pub mod RexExamples
+mod GrammarExamples

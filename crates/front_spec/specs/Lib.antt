@@ -6,6 +6,7 @@ pub mod GrammarShapes
 pub mod GrammarFaults
 pub mod GrammarRules
 pub mod GrammarPromise
+pub mod GrammarSteps
 pub mod Seen
 pub mod Promise
 pub mod Steps

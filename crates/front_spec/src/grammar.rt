@@ -1,20 +1,29 @@
-ghost use Rattle.std.specs.Prelude.{◌≡◌, ℕ, Bool, ◌≤◌, length, IfOk, IfErr};
+ghost use Rattle.std.specs.Prelude.{◌≡◌, ℕ, ◌+◌, ◌^◌, ◌<◌, Bool, ◌≤◌, List, length, map, IfOk, IfErr};
 ghost use Rattle.cfg_model.specs.Cfg.{IsGrammar};
+ghost use Rattle.spec_text.specs.Declares.{DeclareAll, Grow};
+ghost use Rattle.spec_text.specs.FirstFault.{Accepts};
 ghost use Rattle.spec_text.specs.Promise.{AreSectionsOf};
 ghost use Rattle.spec_text.specs.Sections.{SectionLines};
-ghost use Rattle.front_spec.specs.GrammarPromise.{DeclaresGrammar, HasGrammar, IsGrammarFault};
+ghost use Rattle.front_spec.specs.GrammarFaults.{grammar, labels_in, nonterminals_in};
+ghost use Rattle.front_spec.specs.GrammarPromise.{DeclaresGrammar, HasGrammar, IsGrammarFault, judged_grammar};
+ghost use Rattle.front_spec.specs.GrammarSteps.{IsFirstOf, produced_by};
 
-use cfg_model::NamedGrammar;
-use ck_base::SpecFault;
+use crate::grammar_rules::grammar_rules;
+use crate::grammar_text::grammar_of;
+use crate::production::{Production, productions};
+use crate::production_fault::{first_limit, first_twice, first_unknown, left_sides};
+use bumpalo::Bump;
+use cfg_model::{Grammar, NamedGrammar};
+use ck_base::{Kind, Names, SpecFault};
 use rex_model::ScanRules;
 use spec_text::Sections;
 use std::alloc::Global;
 
 /// The grammar of the section LALR or ELL, or the section's first fault: the first line without a
-/// shape; else the first line of kind twice, then unknown, where a section without a rule is at fault
-/// at its head's line, then limit. `s` is what `sections` gives of `spec`, which has such a section,
-/// and `rules` are what `read_rex` gives of it. Terminals are the tokens of the rules; nonterminals are
-/// numbered in the order in which their first rules stand.
+/// shape; else the first line of kind twice, then unknown, where a section without a rule is at
+/// fault at its head's line, then limit. `s` is what `sections` gives of `spec`, which has such a
+/// section, and `rules` are what `read_rex` gives of it. Terminals are the tokens of the rules;
+/// nonterminals are numbered in the order in which their first rules stand.
 pub fn read_grammar(
     alloc: Global,
     spec: &[u8],
@@ -31,5 +40,74 @@ pub fn read_grammar(
     ensures nonterminals { IfOk result (λ g. length g.nonterminals ≡ g.grammar.nonterminals) }
     ensures labels { IfOk result (λ g. length g.labels ≡ length g.grammar.rules) }
 {
-    Err(SpecFault::NoMemory)
+    let text = grammar_of(s);
+    let tokens = &rules.tokens;
+    let texts = Bump::new(alloc);
+    let list = productions(alloc, &texts, spec, text.section.lines)?;
+    let list = list.as_slice();
+    let names = declared_names(alloc, tokens, text.section.head, list)?;
+    let rules = grammar_rules(alloc, tokens, &names.nonterminals, list)?;
+    Ok(NamedGrammar {
+        grammar: Grammar {
+            terminals: tokens.len(),
+            nonterminals: names.nonterminals.len(),
+            start: 0,
+            rules,
+        },
+        nonterminals: names.nonterminals,
+        labels: names.labels,
+        ell: text.ell,
+    })
+}
+
+/// The names that a grammar declares.
+#[derive(Drop)]
+struct GrammarNames {
+    labels: Names,
+    nonterminals: Names,
+}
+
+/// The names that the rules declare, or the first fault where each line has a shape.
+fn declared_names(
+    alloc: Global,
+    tokens: &Names,
+    head: u32,
+    list: &[Production<'_>],
+) -> Result<GrammarNames, SpecFault>
+    requires few { length list.now + 1 < 2 ^ 32 }
+    requires grow { Grow (map produced_by list.now) }
+    ensures labels { IfOk result (λ names. names.labels ≡ labels_in (map produced_by list.now)) }
+    ensures nonterminals { IfOk result (λ names.
+        names.nonterminals ≡ nonterminals_in (map produced_by list.now)) }
+    ensures accepted { IfOk result (λ names. (these : SectionLines) → head ≡ these.head
+        → DeclareAll (grammar tokens.now) these.inside (map produced_by list.now)
+        → Accepts (judged_grammar tokens.now these) (map produced_by list.now)) }
+    ensures fault { IfErr result (λ fault. (these : SectionLines) → head ≡ these.head
+        → DeclareAll (grammar tokens.now) these.inside (map produced_by list.now)
+        → IsFirstOf tokens.now these fault) }
+{
+    let mut labels = Names::new(alloc);
+    if let Some(line) = first_twice(&mut labels, tokens, list)? {
+        return Err(SpecFault::Bad {
+            line,
+            kind: Kind::Twice,
+        });
+    }
+    let nonterminals = left_sides(alloc, list)?;
+    if let Some(line) = first_unknown(tokens, &nonterminals, head, list) {
+        return Err(SpecFault::Bad {
+            line,
+            kind: Kind::Unknown,
+        });
+    }
+    if let Some(line) = first_limit(alloc, tokens, list)? {
+        return Err(SpecFault::Bad {
+            line,
+            kind: Kind::Limit,
+        });
+    }
+    Ok(GrammarNames {
+        labels,
+        nonterminals,
+    })
 }

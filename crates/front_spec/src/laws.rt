@@ -1,13 +1,17 @@
-ghost use Rattle.std.specs.Prelude.{◌≡◌, ℕ, List};
+ghost use Rattle.std.specs.Prelude.{◌≡◌, ℕ, Bool, List};
 ghost use Rattle.ck_base.specs.Found.{HasNo};
 ghost use Rattle.ck_base.specs.declared.fault.Kind.{Kind};
+ghost use Rattle.cfg_model.specs.declared.named.NamedGrammar.{NamedGrammar as named_grammar};
 ghost use Rattle.rex_model.specs.Rules.{Rules};
 ghost use Rattle.spec_text.specs.Declares.{LinesGrow, judged};
 ghost use Rattle.spec_text.specs.FirstFault.{ExactlyOne};
 ghost use Rattle.spec_text.specs.Lexemes.{Lexeme};
 ghost use Rattle.spec_text.specs.Lines.{Line};
 ghost use Rattle.spec_text.specs.Promise.{HasSections};
+ghost use Rattle.spec_text.specs.Sections.{SectionLines};
 ghost use Rattle.spec_text.specs.declared.section.Part.{Part};
+ghost use Rattle.front_spec.specs.GrammarPromise.{DeclaresGrammar, FirstGrammarFault, HasGrammar};
+ghost use Rattle.front_spec.specs.GrammarShapes.{ProductionLine, SaidProduction};
 ghost use Rattle.front_spec.specs.Promise.{DeclaresRules, FirstRexFault};
 ghost use Rattle.front_spec.specs.Regexes.{EndsRegex, IsRegex, Written};
 ghost use Rattle.front_spec.specs.RexShapes.{RexShape, Saying};
@@ -43,4 +47,33 @@ pub fn one_rex()
         → (line ≡ other) × (kind ≡ worse) }
     ensures not_both { (file : List ℕ) (rules : Rules) (line : ℕ) (kind : Kind)
         → DeclaresRules file rules → FirstRexFault file line kind → ⊥ }
+{}
+
+/// Law: a line of a grammar declares one rule at most.
+pub fn at_most_one_production()
+    ensures { (tokens : List Lexeme) (said other : SaidProduction) → ProductionLine tokens said
+        → ProductionLine tokens other → said ≡ other }
+{}
+
+/// Law: a file has one section of a grammar at most, so LALR or ELL.
+pub fn at_most_one_grammar_section()
+    ensures { (file : List ℕ) (ell other : Bool) (lines those : SectionLines)
+        → HasGrammar file ell lines → HasGrammar file other those
+        → (ell ≡ other) × (lines ≡ those) }
+{}
+
+/// Law: the section of a grammar declares a grammar over the tokens or has a first fault, not both,
+/// and each in one way.
+pub fn one_grammar()
+    ensures some { (file : List ℕ) (tokens : List (List ℕ)) (ell : Bool) (lines : SectionLines)
+        → HasGrammar file ell lines → HasNo (DeclaresGrammar file tokens)
+        → ((line : ℕ) (kind : Kind) → FirstGrammarFault file tokens line kind → ⊥) → ⊥ }
+    ensures one { (file : List ℕ) (tokens : List (List ℕ)) (g other : named_grammar)
+        → DeclaresGrammar file tokens g → DeclaresGrammar file tokens other → g ≡ other }
+    ensures one_fault { (file : List ℕ) (tokens : List (List ℕ)) (line other : ℕ)
+        (kind worse : Kind) → FirstGrammarFault file tokens line kind
+        → FirstGrammarFault file tokens other worse → (line ≡ other) × (kind ≡ worse) }
+    ensures not_both { (file : List ℕ) (tokens : List (List ℕ)) (g : named_grammar) (line : ℕ)
+        (kind : Kind) → DeclaresGrammar file tokens g
+        → FirstGrammarFault file tokens line kind → ⊥ }
 {}

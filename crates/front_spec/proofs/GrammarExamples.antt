@@ -1,0 +1,151 @@
+-- The definitions on grammars, tried where the nearest wrong reading differs.
+use Rattle.std.proofs.Common.{◌≡◌, ℕ, zero, suc, ◌+◌, ◌<◌, ◌≤◌, inl, inr, List, [], ◌∷◌, length, take, get_or, slice_get, refl, sym, ap, ◌∙◌, Some, Contains, codes, arith}
+use Rattle.ck_base.specs.declared.fault.Kind.TheVariants.{Limit, Twice, Unknown}
+use Rattle.cfg_model.specs.declared.symbol.Sym.TheVariants.{T, N}
+use Rattle.spec_text.specs.Declares.{Declared, no_lines, HasFault}
+use Rattle.spec_text.specs.FirstFault.{Least, FirstFault, of_kind}
+use Rattle.spec_text.specs.Sections.{SectionLines}
+use Rattle.spec_text.proofs.KindOrder.{before_unknown}
+use Rattle.front_spec.specs.GrammarShapes.{SaidProduction}
+use Rattle.front_spec.specs.GrammarFaults.{nonterminals_in, GrammarFault, second_label, left_is_token, left_is_end, no_symbol, too_many_rules, too_many_symbols, grammar}
+use Rattle.front_spec.specs.GrammarRules.{grammar_by}
+use Rattle.front_spec.specs.GrammarPromise.{judged_grammar}
+use Rattle.front_spec.specs.GrammarSteps.{HasIn}
+use Rattle.front_spec.proofs.ProductionPasses.{head_unknown}
+
+-- `RULE one : s = u a t`, `RULE two : t =`, `RULE three : u = t`
+abbrev u_a_t : List (List ℕ)
+u_a_t = codes "u" ∷ codes "a" ∷ codes "t" ∷ []
+
+abbrev three_rules : List (Declared SaidProduction)
+three_rules =
+    record { number = 3; said = record { label = codes "one"; left = codes "s"; right = u_a_t } }
+    ∷ record { number = 4; said = record { label = codes "two"; left = codes "t"; right = [] } }
+    ∷ record { number = 5; said = record { label = codes "three"; left = codes "u"; right = codes "t" ∷ [] } } ∷ []
+
+-- nonterminals are numbered by their rules: u has 2, though it stands on a right side before t
+pub numbered : grammar_by (codes "a" ∷ []) three_rules ≡ record {
+  terminals = 1;
+  nonterminals = 3;
+  start = 0;
+  rules =
+      record { left = 0; right = N 2 ∷ T 0 ∷ N 1 ∷ [] } ∷ record { left = 1; right = [] }
+      ∷ record { left = 2; right = N 1 ∷ [] } ∷ [];
+}
+numbered = refl
+
+-- END is a terminal of each grammar, but no symbol of a rule
+abbrev with_end : SaidProduction
+with_end = record { label = codes "one"; left = codes "s"; right = codes "END" ∷ [] }
+
+abbrev end_rule : List (Declared SaidProduction)
+end_rule = record { number = 3; said = with_end } ∷ []
+
+pub end_is_unknown : GrammarFault (codes "a" ∷ []) end_rule Unknown 0 with_end
+end_is_unknown =
+    no_symbol 0 with_end (codes "END") (0, omega arith, refl) (λ there. not_end (codes "a") refl there)
+    (λ there. not_end (codes "s") refl there)
+  where
+    not_end : (name : List ℕ) → length name ≡ 1 → Contains (name ∷ []) (codes "END") → ⊥
+    not_end name one there = by there.0 there.1 there.2
+      where
+        by : (i : ℕ) → i < length (name ∷ []) → get_or (name ∷ []) i (codes "END") ≡ codes "END" → ⊥
+        by zero less is = let long = ap length is in omega (arith, one, long)
+        by (suc i) less is = omega (arith, less)
+
+-- a label may be there once, a left side more than once: the second of these is at fault, and not the third
+abbrev first_rule : SaidProduction
+first_rule = record { label = codes "one"; left = codes "s"; right = [] }
+
+abbrev same_label : SaidProduction
+same_label = record { label = codes "one"; left = codes "t"; right = [] }
+
+abbrev same_left : SaidProduction
+same_left = record { label = codes "other"; left = codes "s"; right = [] }
+
+abbrev label_twice : List (Declared SaidProduction)
+label_twice =
+    record { number = 3; said = first_rule } ∷ record { number = 4; said = same_label }
+    ∷ record { number = 5; said = same_left } ∷ []
+
+no_end : (name : List ℕ) → length name ≡ 1 → name ≡ codes "END" → ⊥
+no_end name one is = let long = ap length is in omega (arith, one, long)
+
+nothing_in : (name : List ℕ) → Contains [] name → ⊥
+nothing_in name there = let less = there.1 in omega (arith, less)
+
+pub label_is_twice : Least (HasFault (grammar []) label_twice Twice) 4
+label_is_twice = record {
+  is = record { place = 1; declared = _; is = refl; number = refl; fault = second_label 1 same_label (0, omega arith, refl) };
+  least = λ line has. by line has.place has.declared has.is has.number has.fault;
+}
+  where
+    first_is_none : (said : SaidProduction) → said ≡ first_rule → GrammarFault [] label_twice Twice 0 said → ⊥
+    first_is_none _ is (second_label _ said there) = nothing_in said.label there
+    first_is_none _ is (left_is_token _ said there) = nothing_in said.left there
+    first_is_none _ is (left_is_end _ said end) = no_end (codes "s") refl (sym (ap (λ s. s.left) is) ∙ end)
+
+    by : (line place : ℕ) (d : Declared SaidProduction) → slice_get label_twice place ≡ Some d → line ≡ d.number
+        → GrammarFault [] label_twice Twice place d.said → 4 ≤ line
+    by line zero d at number fault =
+        let same : record { number = 3; said = first_rule } ≡ d = cc in
+        absurd (first_is_none d.said (sym (ap (λ x. x.said) same)) fault)
+    by line (suc zero) d at number fault =
+        let same : record { number = 4; said = same_label } ≡ d = cc in
+        let n = ap (λ x. x.number) same in omega (arith, n, number)
+    by line (suc (suc zero)) d at number fault =
+        let same : record { number = 5; said = same_left } ≡ d = cc in
+        let n = ap (λ x. x.number) same in omega (arith, n, number)
+    by line (suc (suc (suc i))) d at number fault = cc
+
+pub left_side_again : GrammarFault [] label_twice Twice 2 same_left → ⊥
+left_side_again fault = by same_left refl fault
+  where
+    by : (said : SaidProduction) → said ≡ same_left → GrammarFault [] label_twice Twice 2 said → ⊥
+    by _ is (second_label _ said there) = another there.0 there.1 (rw (ap (λ s. s.label) is) at there.2)
+      where
+        another : (i : ℕ) → i < 2 → get_or (codes "one" ∷ codes "one" ∷ []) i (codes "other") ≡ codes "other" → ⊥
+        another zero less same = let long = ap length same in omega (arith, long)
+        another (suc zero) less same = let long = ap length same in omega (arith, long)
+        another (suc (suc i)) less same = omega (arith, less)
+    by _ is (left_is_token _ said there) = nothing_in said.left there
+    by _ is (left_is_end _ said end) = no_end (codes "s") refl (sym (ap (λ s. s.left) is) ∙ end)
+
+-- where the tokens and END are too many already, the first rule is at fault; with 510 tokens a nonterminal fits,
+-- with 511 not
+pub tokens_too_many : (tokens : List (List ℕ)) (d : Declared SaidProduction) (ds : List (Declared SaidProduction))
+    → 512 < length tokens + 1
+    → HasFault (grammar tokens) (d ∷ ds) Limit d.number
+tokens_too_many tokens d ds more =
+    record { place = 0; declared = d; is = refl; number = refl; fault = too_many_symbols 0 d.said (omega (arith, more)) }
+
+one_nonterminal : (d : Declared SaidProduction) (ds : List (Declared SaidProduction))
+    → length (nonterminals_in (take 1 (d ∷ ds))) ≡ 1
+one_nonterminal d ds = refl
+
+pub one_too_many : (tokens : List (List ℕ)) (d : Declared SaidProduction) (ds : List (Declared SaidProduction))
+    → length tokens ≡ 511
+    → GrammarFault tokens (d ∷ ds) Limit 0 d.said
+one_too_many tokens d ds full = too_many_symbols 0 d.said (let one = one_nonterminal d ds in omega (arith, full, one))
+
+pub just_fits : (tokens : List (List ℕ)) (d : Declared SaidProduction) (ds : List (Declared SaidProduction))
+    → length tokens ≡ 510
+    → GrammarFault tokens (d ∷ ds) Limit 0 d.said → ⊥
+just_fits tokens d ds full fault = by d.said fault
+  where
+    by : (said : SaidProduction) → GrammarFault tokens (d ∷ ds) Limit 0 said → ⊥
+    by _ (too_many_rules _ said more) = omega (arith, more)
+    by _ (too_many_symbols _ said more) = let one = one_nonterminal d ds in omega (arith, more, full, one)
+
+-- a section without a rule is at fault at its head's line, and not accepted as a grammar without rules
+abbrev no_rules : SectionLines
+no_rules = record { head = 7; inside = [] }
+
+pub no_rule_is_unknown : (tokens : List (List ℕ)) → FirstFault (judged_grammar tokens no_rules) 7 Unknown
+no_rule_is_unknown tokens =
+    of_kind [] 7 Unknown no_lines (omega arith) (before_unknown (judged_grammar tokens no_rules) [] none_twice)
+    (head_unknown tokens 7 [] refl)
+  where
+    none_twice : (line : ℕ) → HasIn tokens 7 [] Twice line → ⊥
+    none_twice line (inl has) = let at = has.is in cc
+    none_twice line (inr has) = elim has.1 [ ]
