@@ -2,7 +2,7 @@
 use Rattle.std.specs.Prelude.{◌≡◌, Some}
 use Rattle.cfg_model.specs.Cfg.{Cfg}
 use Rattle.cfg_model.specs.LlConflicts.{LlReport}
-use Rattle.cfg_model.specs.LlTables.{NoneLeftRecursive, IsLlTable}
+use Rattle.cfg_model.specs.LlTables.{IsLl, NoneLeftRecursive, IsLlTable}
 use Rattle.cfg_model.specs.Searches.{IsLeast, IsUnproductive, LeftRecursive}
 use Rattle.cfg_model.specs.Sets.{AllProductive, Reachable}
 use Rattle.ell_tables.specs.Table.{answer_of, grammar_of, numbers_of}
@@ -14,6 +14,10 @@ use Rattle.ell_tables.specs.declared.refusal.EllError.TheVariants as refused
 pub record IsTableOf (g : Cfg) (table : PlainLl) : Type 0 where
   pub of_grammar : grammar_of table ≡ g
   pub is_table : IsLlTable g (numbers_of table) (answer_of table)
+
+-- the grammar has a table
+abbrev pub HasTable : Cfg → Type 0
+HasTable g = IsLl g
 
 -- why there is none: the first cause in order; want of memory has none
 abbrev pub IsRefused : Cfg → EllError → Type 0
