@@ -1,0 +1,3 @@
+-- Words that only the contracts and proofs within this crate cite.
+pub mod Clashes
+pub mod Rows
