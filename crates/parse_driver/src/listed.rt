@@ -6,6 +6,7 @@ ghost use Rattle.parse_driver.specs.declared.tokens.TokenRef.{TokenRef};
 use crate::tokens::{Next, TokenRef, Tokens};
 
 /// A stream of tokens from a list.
+#[derive(Drop)]
 pub struct Listed<'a> {
     tokens: &'a [TokenRef],
     /// How many were drawn.

@@ -1,0 +1,3 @@
+mod Makers
+mod PlainReady
+mod Few
