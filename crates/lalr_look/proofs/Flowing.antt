@@ -1,5 +1,5 @@
 -- The invariant of the flow.
-use Rattle.std.proofs.Common.{◌≡◌, ◌≢◌, ℕ, zero, suc, ◌+◌, ◌*◌, ◌<◌, ◌≤◌, ◌⊎◌, inl, inr, List, [], ◌∷◌, ◌++◌, length, arith, refl, sym, ap, subst, subst₂, ◌∙◌, Bool, true, false, ◌↔◌, get_or, slice_index_or, slice_get, Some, Contains, All, length-set, length-append, get_or-set_same, get_or-set_other}
+use Rattle.std.proofs.Common.{◌≡◌, ◌≢◌, ℕ, zero, suc, ◌+◌, ◌-◌, ◌*◌, ◌<◌, ◌≤◌, ◌⊎◌, inl, inr, List, [], ◌∷◌, ◌++◌, length, arith, refl, sym, ap, subst, subst₂, ◌∙◌, Bool, true, false, ◌↔◌, get_or, slice_index_or, slice_get, Some, Contains, All, length-set, length-append, get_or-set_same, get_or-set_other}
 use Rattle.ck_base.specs.BitSet.{BitSet, Has}
 use Rattle.lalr_look.specs.Flow.{no_set, set_at, JoinedAt, Edge, Flows, own, along, Sent}
 use Rattle.lalr_look.specs.Rows.{rows_of}
@@ -296,21 +296,22 @@ row_is rows n row low is = get_or-map (λ r. r.items) rows n row [] low ∙ ap (
 pub counted : (rows : List (Vec ℕ Global)) → length (rows_of rows) ≡ length rows
 counted rows = length-map rows (λ r. r.items)
 
--- one number more on the first list of work
-pub one_more : (work : List ℕ) (n : ℕ) → ((k : ℕ) → Contains work k ↔ (k < n)) → (k : ℕ) → Contains (work ++ (n ∷ [])) k ↔ (k < n + 1)
-one_more work n has k =
-    (λ c. there (Contains-append_cases work (n ∷ []) k c), λ low. back (which k n low))
+-- one number more on the first list of work, which has the highest ones so far
+pub one_lower : (work : List ℕ) (count turn : ℕ) → turn < count → ((k : ℕ) → Contains work k ↔ ((count ≤ k + turn) × (k < count)))
+    → (k : ℕ) → Contains (work ++ ((count - turn - 1) ∷ [])) k ↔ ((count ≤ k + (turn + 1)) × (k < count))
+one_lower work count turn low has k =
+    (λ c. there (Contains-append_cases work ((count - turn - 1) ∷ []) k c), λ (lower, upper). back upper (which k lower))
   where
-    there : Contains work k ⊎ Contains (n ∷ []) k → k < n + 1
-    there (inl c) = let low = (has k).0 c in omega (arith, low)
-    there (inr c) = let e = one_member n k c in omega (arith, e)
+    there : Contains work k ⊎ Contains ((count - turn - 1) ∷ []) k → (count ≤ k + (turn + 1)) × (k < count)
+    there (inl c) = let (lower, upper) = (has k).0 c in (omega (arith, lower), upper)
+    there (inr c) = let e = one_member (count - turn - 1) k c in (omega (arith, e, low), omega (arith, e, low))
 
-    which : (k n : ℕ) → k < n + 1 → (k < n) ⊎ (k ≡ n)
-    which k n low = grind arith
+    which : (k : ℕ) → count ≤ k + (turn + 1) → (count ≤ k + turn) ⊎ (k ≡ count - turn - 1)
+    which k lower = grind (arith, lower, low)
 
-    back : (k < n) ⊎ (k ≡ n) → Contains (work ++ (n ∷ [])) k
-    back (inl low) = Contains-append_left work (n ∷ []) k ((has k).1 low)
-    back (inr e) = Contains-append_right work (n ∷ []) k (0, omega arith, sym e)
+    back : k < count → (count ≤ k + turn) ⊎ (k ≡ count - turn - 1) → Contains (work ++ ((count - turn - 1) ∷ [])) k
+    back upper (inl lower) = Contains-append_left work ((count - turn - 1) ∷ []) k ((has k).1 (lower, upper))
+    back upper (inr e) = Contains-append_right work ((count - turn - 1) ∷ []) k (0, omega arith, sym e)
 
 pub same_sizes : (edges : List (List ℕ)) (start sets : List BitSet) (work : List ℕ) (n i : ℕ) → Turning edges start sets work n i
     → (size : ℕ) × All (λ set. set.size ≡ size) sets

@@ -1,4 +1,4 @@
-ghost use Rattle.std.specs.Prelude.{◌≡◌, ℕ, ◌<◌, ◌≤◌, ◌+◌, ◌^◌, ◌↔◌, All, length, OnOk, IfOk};
+ghost use Rattle.std.specs.Prelude.{◌≡◌, ℕ, ◌<◌, ◌≤◌, ◌+◌, ◌^◌, ◌↔◌, All, Contains, length, OnOk, IfOk};
 ghost use Rattle.ck_base.specs.BitSet.{Has};
 ghost use Rattle.lalr_look.specs.Flow.{JoinedAt, Sent, Edge, Flows, set_at};
 ghost use Rattle.lalr_look.specs.Rows.{rows_of};
@@ -45,10 +45,8 @@ pub fn spread(alloc: Global, edges: &Vec<Vec<u32>>, sets: &mut [Bits]) -> Result
     ensures long { OnOk result (length sets.new ≡ length sets.old) }
     ensures sizes { OnOk result ((size : ℕ) × All (λ set. set.size ≡ size) sets.new) }
 {
-    let mut work = Vec::new(alloc);
-    for n in 0..sets.len() as u32 {
-        work.push(n)?;
-    }
+    let count = sets.len() as u32;
+    let mut work = all_below(alloc, count)?;
     while let Some(n) = work.pop() {
         let next = &edges[n as usize];
         for i in 0..next.len() {
@@ -56,6 +54,18 @@ pub fn spread(alloc: Global, edges: &Vec<Vec<u32>>, sets: &mut [Bits]) -> Result
         }
     }
     Ok(())
+}
+
+/// All numbers below `count`, with the least at the end: numbers mostly flow from lower nodes to higher
+/// ones.
+fn all_below(alloc: Global, count: u32) -> Result<Vec<u32>, NoMemory>
+    ensures { IfOk result (λ work. (k : ℕ) → Contains work.items k ↔ (k < count)) }
+{
+    let mut work = Vec::new(alloc);
+    for turn in 0..count {
+        work.push(count - turn - 1)?;
+    }
+    Ok(work)
 }
 
 /// For each number the set that has it alone.

@@ -1,26 +1,18 @@
 use Rattle.std.proofs.Common.{◌≡◌, ℕ, ◌<◌, ◌+◌, ◌↔◌, length, List, [], ◌∷◌, arith, refl, sym, ap, ◌∙◌, subst, Contains, slice_index_or}
 use Rattle.std.proofs.lemmas.List.Elements.{Contains-append_right}
 use Rattle.lalr_look.specs.Rows.{rows_of}
-use Rattle.lalr_look.proofs.Flowing.{Turning, all_wait, popped, row_done, sent, flowed, row_is, counted, one_more, same_sizes, low_node, edge_at}
+use Rattle.lalr_look.proofs.Flowing.{Turning, all_wait, popped, row_done, sent, flowed, row_is, counted, same_sizes, low_node, edge_at}
 use Rattle.lalr_look.proofs.flow.spread.Goals as goal
 
-pub loop-n-preserved : goal.loop-n-preserved
-loop-n-preserved c =
-    let items = (c.in_ok-push.ensures).items in
-    subst (λ l. (k : ℕ) → Contains l k ↔ (k < c.loop-n.n + 1)) (sym items) (one_more c.loop-n.work.items c.loop-n.n c.loop-n.invariant)
-
-pub loop-n-2-init : goal.loop-n-2-init
-loop-n-2-init c =
+pub loop-n-init : goal.loop-n-init
+loop-n-init c =
     let long = counted c.args.edges.now.items ∙ c.requires.nodes in
-    let past = c.loop-n-test.false in
-    let auto = c.loop-n.auto in
-    all_wait (rows_of c.args.edges.now.items) c.args.sets.now c.loop-n.work.items long c.requires.sizes
-    (λ k. (λ h. (let low = (c.loop-n.invariant k).0 h in let top = auto.n-end in omega (arith, low, top)), λ low. (c.loop-n.invariant k).1 (omega (arith, low, past))))
+    all_wait (rows_of c.args.edges.now.items) c.args.sets.now c.in_ok-work.work.items long c.requires.sizes c.in_ok-work.ensures
 
 pub index-next-requires : goal.index-next-requires
 index-next-requires c =
     let items = (c.in-Some.ensures).items in
-    let low = c.loop-n-2.invariant.nodes c.in-Some.n
+    let low = c.loop-n.invariant.nodes c.in-Some.n
     (subst (λ l. Contains l c.in-Some.n) (sym items) (Contains-append_right c.pop.new.self.items (c.in-Some.n ∷ []) c.in-Some.n (0, omega arith, refl))) in
     let nodes = c.requires.nodes in
     let ok = c.args.edges.now.ok in
@@ -29,14 +21,14 @@ index-next-requires c =
 pub loop-i-init : goal.loop-i-init
 loop-i-init c =
     let items = (c.in-Some.ensures).items in (
-      popped (rows_of c.args.edges.now.items) c.args.sets.now c.loop-n-2.sets c.pop.new.self.items c.in-Some.n
-          (subst (λ l. Turning (rows_of c.args.edges.now.items) c.args.sets.now c.loop-n-2.sets l (length (rows_of c.args.edges.now.items)) 0) items c.loop-n-2.invariant),
+      popped (rows_of c.args.edges.now.items) c.args.sets.now c.loop-n.sets c.pop.new.self.items c.in-Some.n
+          (subst (λ l. Turning (rows_of c.args.edges.now.items) c.args.sets.now c.loop-n.sets l (length (rows_of c.args.edges.now.items)) 0) items c.loop-n.invariant),
       omega arith,
     )
 
-pub loop-n-2-preserved : goal.loop-n-2-preserved
-loop-n-2-preserved c =
-    let low = low_node (rows_of c.args.edges.now.items) c.args.sets.now c.loop-n-2.sets _ c.pop.new.self.items c.in-Some.n c.loop-n-2.invariant (c.in-Some.ensures).items in
+pub loop-n-preserved : goal.loop-n-preserved
+loop-n-preserved c =
+    let low = low_node (rows_of c.args.edges.now.items) c.args.sets.now c.loop-n.sets _ c.pop.new.self.items c.in-Some.n c.loop-n.invariant (c.in-Some.ensures).items in
     let nodes = c.requires.nodes in
     let row = row_is c.args.edges.now.items c.in-Some.n c.index-next.result.now (omega (arith, low, nodes)) c.index-next.ensures in
     let size : length (slice_index_or (rows_of c.args.edges.now.items) c.in-Some.n []) ≡ length c.index-next.result.now.items = ap length row in
@@ -50,7 +42,7 @@ loop-n-2-preserved c =
 
 pub send-requires-clause-inside : goal.send-requires-clause-inside
 send-requires-clause-inside c =
-    let low = low_node (rows_of c.args.edges.now.items) c.args.sets.now c.loop-n-2.sets _ c.pop.new.self.items c.in-Some.n c.loop-n-2.invariant (c.in-Some.ensures).items in
+    let low = low_node (rows_of c.args.edges.now.items) c.args.sets.now c.loop-n.sets _ c.pop.new.self.items c.in-Some.n c.loop-n.invariant (c.in-Some.ensures).items in
     let nodes = c.requires.nodes in
     let test = c.loop-i-test.true in
     let len = c.len-i-end.ensures in
@@ -66,7 +58,7 @@ send-requires-clause-sizes c = same_sizes _ _ _ _ _ _ (c.loop-i.invariant).0
 
 pub loop-i-preserved : goal.loop-i-preserved
 loop-i-preserved c =
-    let low = low_node (rows_of c.args.edges.now.items) c.args.sets.now c.loop-n-2.sets _ c.pop.new.self.items c.in-Some.n c.loop-n-2.invariant (c.in-Some.ensures).items in
+    let low = low_node (rows_of c.args.edges.now.items) c.args.sets.now c.loop-n.sets _ c.pop.new.self.items c.in-Some.n c.loop-n.invariant (c.in-Some.ensures).items in
     let nodes = c.requires.nodes in
     let test = c.loop-i-test.true in
     let len = c.len-i-end.ensures in
@@ -84,15 +76,15 @@ no_items [] e = refl
 no_items (x ∷ work) e = absurd (omega (arith, e))
 
 pub returns-clause-long : goal.returns-clause-long
-returns-clause-long c = c.loop-n-2.invariant.long
+returns-clause-long c = c.loop-n.invariant.long
 
 pub returns-clause-sizes : goal.returns-clause-sizes
-returns-clause-sizes c = same_sizes _ _ _ _ _ _ c.loop-n-2.invariant
+returns-clause-sizes c = same_sizes _ _ _ _ _ _ c.loop-n.invariant
 
 pub returns-clause-flows : goal.returns-clause-flows
 returns-clause-flows c =
     let empty = c.in_default.ensures.cases.0 in
-    let ok = c.loop-n-2.work.ok in
-    let none = no_items c.loop-n-2.work.items (omega (arith, empty, ok)) in
-    flowed (rows_of c.args.edges.now.items) c.args.sets.now c.loop-n-2.sets
-    (subst (λ l. Turning (rows_of c.args.edges.now.items) c.args.sets.now c.loop-n-2.sets l (length (rows_of c.args.edges.now.items)) 0) none c.loop-n-2.invariant)
+    let ok = c.loop-n.work.ok in
+    let none = no_items c.loop-n.work.items (omega (arith, empty, ok)) in
+    flowed (rows_of c.args.edges.now.items) c.args.sets.now c.loop-n.sets
+    (subst (λ l. Turning (rows_of c.args.edges.now.items) c.args.sets.now c.loop-n.sets l (length (rows_of c.args.edges.now.items)) 0) none c.loop-n.invariant)
