@@ -12,4 +12,3 @@ one_kind v k kind kinds is at int = subst (IsOfKind v) (the_kind k (subst (λ (k
     the_kind : (k : ℕ) → slice_get (ty.Int ∷ []) k ≡ Some kind → ty.Int ≡ kind
     the_kind zero at = (cc)
     the_kind (suc k) at = (cc)
-

@@ -1,3 +1,4 @@
 mod Makers
+mod MapPut
 mod PlainReady
 mod Few

@@ -27,7 +27,12 @@ pub(crate) fn make_kinds(alloc: Global, types: &mut Types) -> Result<Kinds, NoMe
 {
     let family = types.add_family(b"Tree", false)?;
     let leaf = types.add_type(b"leaf", family, None, items(alloc, &[ValType::Int])?)?;
-    let wrap = types.add_type(b"wrap", family, None, items(alloc, &[ValType::Node(family)])?)?;
+    let wrap = types.add_type(
+        b"wrap",
+        family,
+        None,
+        items(alloc, &[ValType::Node(family)])?,
+    )?;
     let more = items(alloc, &[ValType::Node(family)])?;
     let pair = types.add_type(b"pair", family, Some(wrap), more)?;
     Ok(Kinds { leaf, wrap, pair })

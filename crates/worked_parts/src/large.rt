@@ -4,7 +4,9 @@ ghost use Rattle.cfg_model.specs.Cfg.{IsGrammar};
 use crate::lalr::found_cores;
 use crate::lines::push_line;
 use crate::written::checked;
-use cfg_model::{Grammar, GrammarRule, Sym, unproductive};
+use cfg_model::{
+    Grammar, GrammarRule, Sym, first, follow, nullable, productive, reachable, unproductive,
+};
 use ck_base::{Bits, NoMemory};
 use lalr_look::lookaheads;
 use std::alloc::Global;
@@ -25,12 +27,7 @@ pub(crate) fn show_thousand(alloc: Global, out: &mut String) -> Result<(), NoMem
 }
 
 /// Writes how many cores the grammar has, and how many lookaheads all items.
-fn show_size(
-    alloc: Global,
-    name: String,
-    g: Grammar,
-    out: &mut String,
-) -> Result<(), NoMemory> {
+fn show_size(alloc: Global, name: String, g: Grammar, out: &mut String) -> Result<(), NoMemory> {
     let Some(g) = checked(g) else {
         return push_line(out, format!(in alloc; "{name}: no grammar")?);
     };
@@ -51,7 +48,10 @@ fn show_size(
     }
     push_line(
         out,
-        format!(in alloc; "{name}: {} cores, {items} items, {ahead} lookaheads", made.len())?,
+        format!(in alloc;
+            "{name}: {} cores, {items} items, {ahead} lookaheads",
+            made.len()
+        )?,
     )
 }
 
@@ -100,6 +100,7 @@ fn thousand(alloc: Global) -> Result<Grammar, NoMemory> {
     })
 }
 
+/// Rule t of level n, of which there are four.
 fn level_rule(alloc: Global, n: u32, t: u32) -> Result<GrammarRule, NoMemory> {
     let mut right = Vec::new(alloc);
     let above = n.saturating_add(1);
@@ -113,4 +114,34 @@ fn level_rule(alloc: Global, n: u32, t: u32) -> Result<GrammarRule, NoMemory> {
         right.push(Sym::N(above))?;
     }
     Ok(GrammarRule { left: n, right })
+}
+
+/// Writes how many numbers the sets of the grammar of 1,000 rules have.
+pub(crate) fn show_thousand_sets(alloc: Global, out: &mut String) -> Result<(), NoMemory> {
+    let Some(g) = checked(thousand(alloc)?) else {
+        return push_line(out, format!(in alloc; "1000 rules: no grammar")?);
+    };
+    if unproductive(alloc, &g)?.is_some() {
+        return push_line(out, format!(in alloc; "1000 rules: unproductive")?);
+    }
+    let empty = numbers_in(&nullable(alloc, &g)?);
+    let words = numbers_in(&productive(alloc, &g)?);
+    let reached = numbers_in(&reachable(alloc, &g)?);
+    let begins = numbers_in_all(&first(alloc, &g)?);
+    let behind = numbers_in_all(&follow(alloc, &g)?);
+    push_line(
+        out,
+        format!(in alloc;
+            "1000 rules: {empty} nullable, {words} productive, {reached} reachable, {begins} in FIRST, {behind} in FOLLOW"
+        )?,
+    )
+}
+
+/// How many numbers the sets have.
+fn numbers_in_all(sets: &[Bits]) -> u64 {
+    let mut count: u64 = 0;
+    for set in sets {
+        count = count.saturating_add(numbers_in(set));
+    }
+    count
 }

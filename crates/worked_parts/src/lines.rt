@@ -1,6 +1,6 @@
-use ck_base::{Bits, NoMemory};
-use cfg_model::Sym;
 use crate::written::Written;
+use cfg_model::Sym;
+use ck_base::{Bits, NoMemory};
 use std::alloc::Global;
 
 /// Puts a line behind the others.

@@ -28,8 +28,9 @@ pub(crate) fn parsed(
     let place = u32::try_from(tokens.len()).unwrap_or(u32::MAX);
     let answer = match parse(alloc, table, &tokens, place, is_bad) {
         Ok(steps) => steps_text(alloc, written, &steps)?,
-        Err(ParseError::SyntaxError { k, at }) =>
-            format!(in alloc; "syntax error, token {k} at {at}")?,
+        Err(ParseError::SyntaxError { k, at }) => format!(in alloc;
+            "syntax error, token {k} at {at}"
+        )?,
         Err(ParseError::BadToken { at }) => format!(in alloc; "bad token at {at}")?,
         Err(ParseError::NoMemory) => return Err(NoMemory),
     };

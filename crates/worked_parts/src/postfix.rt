@@ -45,7 +45,11 @@ fn expression_at<'a>(
         let (Some(b), Some(a), Some(c)) = (stack.pop(), stack.pop(), stack.pop()) else {
             return Ok(None);
         };
-        let (c, a, b) = (arena.try_alloc(c)?, arena.try_alloc(a)?, arena.try_alloc(b)?);
+        let (c, a, b) = (
+            arena.try_alloc(c)?,
+            arena.try_alloc(a)?,
+            arena.try_alloc(b)?,
+        );
         return Ok(Some(Expr::If(c, a, b)));
     }
     if word == "leaf" {
@@ -59,7 +63,11 @@ fn expression_at<'a>(
             return Ok(None);
         };
         let a: &Expr<'a> = arena.try_alloc(a)?;
-        return Ok(Some(if word == "!" { Expr::Not(a) } else { Expr::Neg(a) }));
+        return Ok(Some(if word == "!" {
+            Expr::Not(a)
+        } else {
+            Expr::Neg(a)
+        }));
     }
     leaf_of(word, literals)
 }

@@ -11,7 +11,11 @@ use ck_base::NoMemory;
 use std::alloc::Global;
 
 /// Writes the sets of a grammar, and what it would be refused for.
-pub(crate) fn show_sets(alloc: Global, written: &Written, out: &mut String) -> Result<(), NoMemory> {
+pub(crate) fn show_sets(
+    alloc: Global,
+    written: &Written,
+    out: &mut String,
+) -> Result<(), NoMemory> {
     push_line(out, format!(in alloc; "grammar {}", written.rules)?)?;
     let Some(g) = read(alloc, written)? else {
         return push_line(out, format!(in alloc; "no grammar")?);
@@ -20,7 +24,10 @@ pub(crate) fn show_sets(alloc: Global, written: &Written, out: &mut String) -> R
     let null = letters_in(alloc, letters, &nullable(alloc, &g)?)?;
     let words = letters_in(alloc, letters, &productive(alloc, &g)?)?;
     let reach = letters_in(alloc, letters, &reachable(alloc, &g)?)?;
-    push_line(out, format!(in alloc; "nullable {null}, productive {words}, reachable {reach}")?)?;
+    push_line(
+        out,
+        format!(in alloc; "nullable {null}, productive {words}, reachable {reach}")?,
+    )?;
     show_searches(alloc, written, &g, out)?;
     if unproductive(alloc, &g)?.is_some() {
         return Ok(());
@@ -44,7 +51,9 @@ fn show_searches(
     let left = found(alloc, letters, left_recursive(alloc, g)?)?;
     push_line(
         out,
-        format!(in alloc; "unproductive {none}, cyclic {cycle}, hidden left {hidden}, left {left}")?,
+        format!(in alloc;
+            "unproductive {none}, cyclic {cycle}, hidden left {hidden}, left {left}"
+        )?,
     )
 }
 
@@ -64,7 +73,10 @@ fn show_rows(
         let name = letter(written.nonterminals, n as u32);
         let begin = letters_in(alloc, written.terminals, begin)?;
         let behind = letters_in(alloc, written.terminals, behind)?;
-        push_line(out, format!(in alloc; "{name}: first {begin}, follow {behind}")?)?;
+        push_line(
+            out,
+            format!(in alloc; "{name}: first {begin}, follow {behind}")?,
+        )?;
     }
     Ok(())
 }

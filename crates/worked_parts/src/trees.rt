@@ -32,10 +32,16 @@ pub(crate) fn show_small(alloc: Global, out: &mut String) -> Result<(), NoMemory
     }
     let mut trace = Trace::new(alloc);
     let stopped = tree.walk(4, &mut trace);
-    push_line(out, format!(in alloc; "walk {}, stopped {stopped:?}", trace.text)?)?;
+    push_line(
+        out,
+        format!(in alloc; "walk {}, stopped {stopped:?}", trace.text)?,
+    )?;
     let mut trace = Trace::until(alloc, 1);
     let stopped = tree.walk(4, &mut trace);
-    push_line(out, format!(in alloc; "walk {}, stopped {stopped:?}", trace.text)?)?;
+    push_line(
+        out,
+        format!(in alloc; "walk {}, stopped {stopped:?}", trace.text)?,
+    )?;
     show_orders(alloc, &tree, 4, out)?;
     show_orders(alloc, &tree, 2, out)
 }
@@ -124,12 +130,9 @@ fn count(alloc: Global, name: &str, tree: &Tree, out: &mut String) -> Result<(),
     let stopped = tree.walk(size - 1, &mut counter);
     push_line(
         out,
-        format!(
-            in alloc;
+        format!(in alloc;
             "{name} of {size} nodes: {} entered, {} left, {} deep, stopped {stopped:?}",
-            counter.entered,
-            counter.left,
-            counter.deepest
+            counter.entered, counter.left, counter.deepest
         )?,
     )
 }
@@ -145,5 +148,8 @@ fn show_full(
     requires { length types.now.types < 2 ^ 32 }
 {
     let more = add_node(tree, types, kinds.leaf, &[], &[Value::Int(0)])?;
-    push_line(out, format!(in alloc; "one node more: {more:?} of {}", tree.len())?)
+    push_line(
+        out,
+        format!(in alloc; "one node more: {more:?} of {}", tree.len())?,
+    )
 }

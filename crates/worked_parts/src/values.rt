@@ -11,6 +11,7 @@ use value_store::{Cells, Literals, NoMemory, Text, TextOf, Texts, ValType, Value
 
 /// The source, with its two tokens: `let` at 1:1 and `12` at 3:9.
 const SOURCE: &[u8] = b"let 12";
+
 const SPANS: [Text; 2] = [
     Text {
         of: TextOf::Source,
@@ -23,6 +24,7 @@ const SPANS: [Text; 2] = [
         to: 6,
     },
 ];
+
 const PLACES: [(u32, u32); 2] = [(1, 1), (3, 9)];
 
 /// Writes the value of each expression, by a store and, where it needs none, from the syntax alone.
