@@ -23,7 +23,10 @@ pub(crate) fn show_chains(alloc: Global, out: &mut String) -> Result<(), NoMemor
 /// Writes how many cores and lookaheads a grammar of 1,000 rules has.
 pub(crate) fn show_thousand(alloc: Global, out: &mut String) -> Result<(), NoMemory> {
     let name = format!(in alloc; "1000 rules")?;
-    show_size(alloc, name, thousand(alloc)?, out)
+    show_size(alloc, name, thousand(alloc)?, out)?;
+    let name = format!(in alloc; "1000 rules, the other way round")?;
+    let g = upside_down(thousand(alloc)?);
+    show_size(alloc, name, g, out)
 }
 
 /// Writes how many cores the grammar has, and how many lookaheads all items.
@@ -53,6 +56,22 @@ fn show_size(alloc: Global, name: String, g: Grammar, out: &mut String) -> Resul
             made.len()
         )?,
     )
+}
+
+/// The grammar with its nonterminals numbered the other way round.
+fn upside_down(g: Grammar) -> Grammar {
+    let mut g = g;
+    for rule in &mut g.rules {
+        rule.left = LEVELS.saturating_sub(rule.left).saturating_sub(1);
+        for symbol in &mut rule.right {
+            if let Sym::N(n) = *symbol {
+                *symbol = Sym::N(LEVELS.saturating_sub(n).saturating_sub(1));
+            }
+        }
+    }
+    g.start = LEVELS - 1;
+    g.rules.reverse();
+    g
 }
 
 /// How many numbers the set has.

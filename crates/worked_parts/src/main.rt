@@ -72,7 +72,7 @@ fn parts(alloc: Global, name: &str) -> Result<String, NoMemory> {
         kinds::show_types(alloc, &mut out)?;
         trees::show_small(alloc, &mut out)?;
     }
-    if name.is_empty() || name == "large trees" {
+    if name.is_empty() || name == "combs" {
         trees::show_chain(alloc, &mut out)?;
         trees::show_comb(alloc, &mut out)?;
     }

@@ -42,15 +42,7 @@ fn expression_at<'a>(
         return Ok(Some(Expr::Call(function, args)));
     }
     if word == "if" {
-        let (Some(b), Some(a), Some(c)) = (stack.pop(), stack.pop(), stack.pop()) else {
-            return Ok(None);
-        };
-        let (c, a, b) = (
-            arena.try_alloc(c)?,
-            arena.try_alloc(a)?,
-            arena.try_alloc(b)?,
-        );
-        return Ok(Some(Expr::If(c, a, b)));
+        return choice_of(arena, stack);
     }
     if word == "leaf" {
         return Ok(Some(Expr::Make(1, arguments(arena, stack, 1)?)));
@@ -70,6 +62,20 @@ fn expression_at<'a>(
         }));
     }
     leaf_of(word, literals)
+}
+
+/// The choice between the last two expressions of the stack, by the one before them.
+fn choice_of<'a>(
+    arena: &'a Bump<Global>,
+    stack: &mut Vec<Expr<'a>, &'a Bump<Global>>,
+) -> Result<Option<Expr<'a>>, NoMemory> {
+    let (Some(b), Some(a), Some(c)) = (stack.pop(), stack.pop(), stack.pop()) else {
+        return Ok(None);
+    };
+    let c: &Expr<'a> = arena.try_alloc(c)?;
+    let a: &Expr<'a> = arena.try_alloc(a)?;
+    let b: &Expr<'a> = arena.try_alloc(b)?;
+    Ok(Some(Expr::If(c, a, b)))
 }
 
 /// The last expressions of the stack, which are taken off.

@@ -48,6 +48,14 @@ pub(crate) fn show_small(alloc: Global, out: &mut String) -> Result<(), NoMemory
 
 /// Writes both orders of the nodes under the root.
 fn show_orders(alloc: Global, tree: &Tree, root: u32, out: &mut String) -> Result<(), NoMemory> {
+    let before = preorder(alloc, tree, root)?;
+    push_line(out, before)?;
+    let after = postorder(alloc, tree, root)?;
+    push_line(out, after)
+}
+
+/// The nodes under the root, each before its children.
+fn preorder(alloc: Global, tree: &Tree, root: u32) -> Result<String, NoMemory> {
     let mut text = format!(in alloc; "preorder of {root}:")?;
     let mut at = Some(root);
     for _ in 0..tree.len() {
@@ -60,7 +68,11 @@ fn show_orders(alloc: Global, tree: &Tree, root: u32, out: &mut String) -> Resul
             };
         }
     }
-    push_line(out, text)?;
+    Ok(text)
+}
+
+/// The nodes under the root, each after its children.
+fn postorder(alloc: Global, tree: &Tree, root: u32) -> Result<String, NoMemory> {
     let mut text = format!(in alloc; "postorder of {root}:")?;
     let mut at = first_of(tree, root);
     for _ in 0..tree.len() {
@@ -73,7 +85,7 @@ fn show_orders(alloc: Global, tree: &Tree, root: u32, out: &mut String) -> Resul
             };
         }
     }
-    push_line(out, text)
+    Ok(text)
 }
 
 /// The node under the root with the least number that is under it; it is the first in postorder here.
