@@ -1,5 +1,6 @@
 pub mod CallGraph
 pub mod Demands
+mod Examples
 pub mod Flowing
 pub mod Grown
 pub mod Growth
