@@ -1,5 +1,5 @@
 -- A typed expression is ready: without variables to be evaluated plainly, and over four variables by a store.
-use Rattle.std.proofs.Common.{◌≡◌, ℕ, ◌<◌, ◌^◌, min, false, List, [], ◌∷◌, pos, Some, arith}
+use Rattle.std.proofs.Common.{◌≡◌, ℕ, ◌<◌, ◌^◌, min, false, List, [], ◌∷◌, pos, arith}
 use Rattle.value_store.specs.Cells.{Cell, IsMap}
 use Rattle.value_store.specs.declared.value.Value.TheVariants as value
 use Rattle.value_store.specs.declared.value.ValType.{ValType}

@@ -1,5 +1,5 @@
 -- Makers that make nodes.
-use Rattle.std.specs.Prelude.{◌≡◌, ℕ, List, Bool, false, Some}
+use Rattle.std.specs.Prelude.{◌≡◌, ℕ, List, false, Some}
 use Rattle.expr_lang.specs.declared.expr.Maker.{Maker}
 use Rattle.expr_lang.specs.OfType.{MakesNodes}
 use Rattle.expr_lang.specs.Typing.{maker_of}

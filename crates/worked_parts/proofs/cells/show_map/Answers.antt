@@ -1,4 +1,3 @@
-use Rattle.value_store.specs.Cells.{cells_of}
 use Rattle.worked_parts.proofs.MapPut.{map_put}
 use Rattle.worked_parts.proofs.cells.show_map.Goals as goal
 

@@ -1,4 +1,4 @@
-use Rattle.std.proofs.Common.{sym, arith}
+use Rattle.std.proofs.Common.{arith}
 use Rattle.tree_store.specs.Forest.{here, below}
 use Rattle.worked_parts.proofs.growing.is_under.Goals as goal
 
