@@ -2,14 +2,16 @@
 //!
 //! | question | file |
 //! |---|---|
-//! | grammars as they are written | `src/written.rt`; the grammars themselves: `src/grammars.rt` |
+//! | grammars as they are written | `src/written.rt`; the grammars: `src/grammars.rt` |
 //! | the sets of a grammar, and what it is refused for | `src/sets.rt` |
 //! | LL(1) tables, and parses by them | `src/ll.rt`, `src/parses.rt` |
 //! | cores and united lookaheads | `src/lalr.rt` |
 //! | large grammars, which are made | `src/large.rt` |
-//! | expressions in postfix form; their values | `src/postfix.rt`, `src/expressions.rt`; `src/values.rt` |
+//! | expressions in postfix form | `src/postfix.rt`; the expressions: `src/expressions.rt` |
+//! | their values | `src/values.rt` |
 //! | maps and nodes in cells | `src/cells.rt` |
-//! | the types of nodes; trees of them, their walks and orders | `src/kinds.rt`, `src/growing.rt`; `src/trees.rt`, `src/visitors.rt` |
+//! | the types of nodes; how trees of them grow | `src/kinds.rt`; `src/growing.rt` |
+//! | walks and orders | `src/trees.rt`, `src/visitors.rt` |
 #![tactic(auto)]
 
 mod cells;
