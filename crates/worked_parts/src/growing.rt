@@ -50,7 +50,8 @@ fn items(alloc: Global, types: &[ValType]) -> Result<Vec<Item>, NoMemory>
     Ok(items)
 }
 
-/// Adds a node, where the children are roots and the node fits its type; none where it can't be added.
+/// Adds a node, where the children are roots and the node fits its type; none where it can't be
+/// added.
 pub(crate) fn add_node(
     tree: &mut Tree,
     types: &Types,

@@ -102,8 +102,8 @@ fn chain(alloc: Global, size: u32) -> Result<Grammar, NoMemory> {
 /// How many nonterminals the grammar of 1,000 rules has.
 const LEVELS: u32 = 250;
 
-/// 250 levels of left associative operators: `E_n = E_n o E_n+1 | E_n p E_n+1 | E_n q E_n+1 | E_n+1`,
-/// with `E_249 = i`.
+/// 250 levels of left associative operators: `E_n = E_n o E_n+1 | E_n p E_n+1 | E_n q E_n+1 |
+/// E_n+1`, with `E_249 = i`.
 fn thousand(alloc: Global) -> Result<Grammar, NoMemory> {
     let mut rules = Vec::new(alloc);
     for n in 0..LEVELS {

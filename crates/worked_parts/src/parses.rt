@@ -55,8 +55,8 @@ fn add_tokens(
     Ok(false)
 }
 
-/// The parse of the tokens, which end at a place that may be bad. No table takes a list of more than
-/// 1,000,000 tokens here, or one with a number that is no terminal's.
+/// The parse of the tokens, which end at a place that may be bad. No table takes a list of more
+/// than 1,000,000 tokens here, or one with a number that is no terminal's.
 fn parse(
     alloc: Global,
     table: &PlainLl,

@@ -88,7 +88,8 @@ fn postorder(alloc: Global, tree: &Tree, root: u32) -> Result<String, NoMemory> 
     Ok(text)
 }
 
-/// The node under the root with the least number that is under it; it is the first in postorder here.
+/// The node under the root with the least number that is under it; it is the first in postorder
+/// here.
 fn first_of(tree: &Tree, root: u32) -> Option<u32> {
     for node in 0..tree.len() {
         if is_under(tree, root, node) {

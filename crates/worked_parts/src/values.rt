@@ -52,8 +52,8 @@ fn value_line(alloc: Global, words: &str) -> Result<String, NoMemory> {
     Ok(format!(in alloc; "{words} = {stored}{plainly}")?)
 }
 
-/// The value over a store, where the expression has a type. Variables 0 and 1 are the tokens, 2 is the
-/// int 5, and 3 the map of no pairs.
+/// The value over a store, where the expression has a type. Variables 0 and 1 are the tokens, 2 is
+/// the int 5, and 3 the map of no pairs.
 fn stored_value(alloc: Global, e: &Expr<'_>, texts: &Texts<'_>) -> Result<String, NoMemory> {
     let mut cells = Cells::new(alloc);
     let vars = [ValType::Token, ValType::Token, ValType::Int, ValType::Map];
@@ -107,7 +107,8 @@ fn both(alloc: Global, first: Maker, second: Maker) -> Result<Vec<Maker>, NoMemo
     Ok(list)
 }
 
-/// The value without a store, where the expression has no variable, and is an int, a bool or a text.
+/// The value without a store, where the expression has no variable, and is an int, a bool or a
+/// text.
 fn plain_value(alloc: Global, e: &Expr<'_>, texts: &Texts<'_>) -> Result<String, NoMemory> {
     let scope = Scope {
         vars: &[],

@@ -46,7 +46,8 @@ impl Visit for Counter {
     }
 }
 
-/// Writes the calls of a walk: `+` and the node where it is entered, `-` and the node where it is left.
+/// Writes the calls of a walk: `+` and the node where it is entered, `-` and the node where it is
+/// left.
 #[derive(Drop)]
 pub(crate) struct Trace {
     alloc: Global,
