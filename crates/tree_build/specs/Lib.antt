@@ -1,0 +1,4 @@
+pub mod Built
+pub mod Fitting
+pub mod Shown
+pub mod within
