@@ -1,23 +1,29 @@
 -- What a run is to answer, by what each of its steps found.
-use Rattle.std.proofs.Common.{◌≡◌, ◌≢◌, ℕ, ◌+◌, ◌<◌, ◌≤◌, List, [], ◌∷◌, ◌++◌, length, Option, Result, Vec, Ok, Err, None, Some, IfSome, refl, sym, subst, arith}
+use Rattle.std.proofs.Common.{◌≡◌, ℕ, ◌+◌, ◌<◌, ◌≤◌, List, [], ◌∷◌, ◌++◌, length, Option, Result, Vec, Ok, Err, None, Some, IfSome, refl, sym, subst, arith}
 use Rattle.std.specs.Prelude.{replicate, IsErrAnd}
 use Rattle.std.specs.Global.{Global}
 use Rattle.std.proofs.lemmas.List.{length-replicate}
-use Rattle.std.proofs.lemmas.Option.{IfSome_then}
 use Rattle.ck_base.specs.declared.refusal.Refusal.{Refusal}
 use Rattle.ck_base.specs.declared.refusal.Refusal.TheVariants as refusal
 use Rattle.ck_io.specs.Contents.{IsTold, IsLonger}
 use Rattle.ck_io.specs.Faults.{Rose}
-use Rattle.rex_model.specs.Rules.{Rules}
-use Rattle.ck_tool.specs.Accepts.{RefusesSpec, Accepts}
-use Rattle.ck_tool.specs.Outcome.{Outcome, refused, Makes, AnswerOf, makes}
-use Rattle.ck_tool.specs.Wanted.{Settles, by_words, by_spec, by_source, no_files, one_more, Wanted, Reads, names_in}
+use Rattle.ck_chain.specs.Accepts.{RefusesSpec, Accepts}
+use Rattle.ck_base.specs.Found.{HasNo}
+use Rattle.spec_text.specs.declared.section.Section.{Section}
+use Rattle.ck_chain.specs.Answers.{AnswerOf, Misses, missing_refusal}
+use Rattle.ck_chain.specs.Outcome.{Outcome, output, refused}
+use Rattle.ck_chain.specs.Promise.{Refuses, answer_in}
+use Rattle.ck_chain.specs.Tools.{Tools}
+use Rattle.ck_chain.specs.declared.refused.Refused.{Refused as Why}
+use Rattle.ck_chain.specs.declared.refused.Refused.TheVariants as why
+use Rattle.ck_chain.specs.declared.stage.Stage.{Stage}
+use Rattle.ck_chain.proofs.AcceptedOrRefused.{refused_or_accepted, one_acceptance}
+use Rattle.ck_tool.proofs.OneOutcome.{same_stage}
+use Rattle.ck_tool.specs.Wanted.{Settles, by_words, by_spec, by_tools, by_source, no_files, one_more, Wanted, Reads, names_in}
 use Rattle.ck_tool.specs.Words.{AreOfStage, AreRight, of_stage}
-use Rattle.ck_tool.specs.within.Stops.{IsStopOfRead, IsStopOfSpec, Meets, answer_in}
-use Rattle.ck_tool.specs.declared.stage.Stage.{Stage}
+use Rattle.ck_tool.specs.within.Stops.{IsMissing, IsStopOfRead, Meets, stop_of}
 use Rattle.ck_tool.specs.declared.stop.Stop.{Stop}
 use Rattle.ck_tool.specs.declared.stop.Stop.TheVariants.{Refused, ReadFault, NoMemory}
-use Rattle.ck_tool.proofs.AcceptedOrRefused.{refused_or_accepted}
 
 -- a file that has more bytes than the limit may hold some so long
 longer_bytes : (told : Option (List ℕ)) (limit : ℕ) → IsLonger told limit → (bytes : List ℕ) × IsTold told bytes × (limit < length bytes)
@@ -49,7 +55,8 @@ module _ (contents : List ℕ → Option (List ℕ)) (words : List (List ℕ)) (
       before_spec : (first rest : List (List ℕ)) (o : Outcome) → Settles words first o → [] ≡ first ++ rest → ⊥
       before_spec _ rest _ (by_words wrong) same = wrong (of_stage stage spec_name source_name are)
       before_spec _ rest _ (by_spec _ _ _ spec r _ refuses) same = cc
-      before_spec _ rest _ (by_source _ _ _ spec source rules o _ accepts answers) same = cc
+      before_spec _ rest _ (by_tools _ _ _ spec tools section _ accepts misses) same = cc
+      before_spec _ rest _ (by_source _ _ _ spec source tools o _ accepts none answers) same = cc
 
   -- the specification refuses the run
   pub wanted_of_spec : (spec : List ℕ) (r : Refusal) → IsTold (contents spec_name) spec → RefusesSpec spec r → Wanted contents words (refused r)
@@ -62,7 +69,20 @@ module _ (contents : List ℕ → Option (List ℕ)) (words : List (List ℕ)) (
     settles = by_spec stage spec_name source_name spec r are refuses;
   }
 
-  module _ (spec : List ℕ) (rules : Rules) (spec_is_told : IsTold (contents spec_name) spec) (accepts : Accepts spec rules) where
+  module _ (spec : List ℕ) (tools : Tools) (spec_is_told : IsTold (contents spec_name) spec) (accepts : Accepts spec tools) where
+    -- a section is missing
+    pub wanted_of_tools : (section : Section) → Misses tools stage section → Wanted contents words (refused (missing_refusal section))
+    wanted_of_tools section misses = record {
+      names = spec_name ∷ [];
+      others = source_name ∷ [];
+      files = spec ∷ [];
+      named = rw are.words_are refl;
+      hold = one_more spec_name spec [] [] spec_is_told no_files;
+      settles = by_tools stage spec_name source_name spec tools section are accepts misses;
+    }
+
+  module _ (spec : List ℕ) (tools : Tools) (spec_is_told : IsTold (contents spec_name) spec) (accepts : Accepts spec tools)
+      (none : HasNo (Misses tools stage)) where
     -- the source is read
     pub reads_source : Reads contents words source_name
     reads_source = record {
@@ -78,11 +98,16 @@ module _ (contents : List ℕ → Option (List ℕ)) (words : List (List ℕ)) (
         before_source _ rest _ (by_words wrong) same = wrong (of_stage stage spec_name source_name are)
         before_source _ rest _ (by_spec _ _ _ first r _ refuses) same =
             let is : first ≡ spec = cc in
-            refused_or_accepted spec r rules (rw is at refuses) accepts
-        before_source _ rest _ (by_source _ _ _ first source others o _ its answers) same = cc
+            refused_or_accepted spec r tools (rw is at refuses) accepts
+        before_source _ rest _ (by_tools other s x first others section are2 its misses) same =
+            let is : first ≡ spec = cc in
+            let one = one_acceptance spec others tools (rw is at its) accepts in
+            let stages = same_stage words other stage s x spec_name source_name are2 are in
+            none section (rw (stages, one) at misses)
+        before_source _ rest _ (by_source _ _ _ first source others o _ its all answers) same = cc
 
     -- the source settles
-    pub wanted_of_source : (source : List ℕ) (o : Outcome) → IsTold (contents source_name) source → AnswerOf stage rules source o
+    pub wanted_of_source : (source : List ℕ) (o : Outcome) → IsTold (contents source_name) source → AnswerOf stage tools source o
         → Wanted contents words o
     wanted_of_source source o is answers = record {
       names = spec_name ∷ source_name ∷ [];
@@ -90,7 +115,7 @@ module _ (contents : List ℕ → Option (List ℕ)) (words : List (List ℕ)) (
       files = spec ∷ source ∷ [];
       named = rw are.words_are refl;
       hold = one_more spec_name spec _ _ spec_is_told (one_more source_name source [] [] is no_files);
-      settles = by_source stage spec_name source_name spec source rules o are accepts answers;
+      settles = by_source stage spec_name source_name spec source tools o are accepts none answers;
     }
 
 -- what a stop that `?` passes on meets
@@ -119,27 +144,37 @@ module _ (contents : List ℕ → Option (List ℕ)) (words : List (List ℕ)) (
       fails is
 
   -- the specification is refused
-  pub stop_at_refusal : (failed : Type 0) (spec : List ℕ) (stop : Stop) → IsTold (contents spec_name) spec → IsStopOfSpec spec stop
-      → Meets (Wanted contents words) failed (Err stop)
-  stop_at_refusal failed spec (Refused r) told refuses =
+  pub stop_at_refusal : (failed : Type 0) (spec : List ℕ) (r : Why) → IsTold (contents spec_name) spec → Refuses (RefusesSpec spec) r
+      → Meets (Wanted contents words) failed (Err (stop_of r))
+  stop_at_refusal failed spec (why.Refusal r) told refuses =
       (wanted_of_spec contents words stage spec_name source_name are spec r told refuses, λ same. cc)
-  stop_at_refusal failed spec ReadFault told never = absurd never
-  stop_at_refusal failed spec NoMemory told free = (tt, λ same. cc)
+  stop_at_refusal failed spec why.NoMemory told free = (tt, λ same. cc)
 
-  module _ (spec : List ℕ) (rules : Rules) (told : IsTold (contents spec_name) spec) (accepts : Accepts spec rules) where
+  -- a section is missing
+  pub stop_at_tools : (failed : Type 0) (spec : List ℕ) (tools : Tools) (r : Why) → IsTold (contents spec_name) spec → Accepts spec tools
+      → IsMissing tools stage r → Meets (Wanted contents words) failed (Err (stop_of r))
+  stop_at_tools failed spec tools (why.Refusal r) told accepts (section, misses, is) =
+      (rw is (wanted_of_tools contents words stage spec_name source_name are spec tools told accepts section misses), λ same. cc)
+  stop_at_tools failed spec tools why.NoMemory told accepts missing = (tt, λ same. cc)
+
+  module _ (spec : List ℕ) (tools : Tools) (told : IsTold (contents spec_name) spec) (accepts : Accepts spec tools)
+      (none : HasNo (Misses tools stage)) where
     -- the source wasn't read
     pub stop_at_source : (failed : Type 0) (limit : ℕ) (rose : Type 0) (stop : Stop) → limit ≡ 4194304 → (rose → failed)
         → IsStopOfRead refusal.SourceTooLong (IsLonger (contents source_name) limit) rose stop → Meets (Wanted contents words) failed (Err stop)
     stop_at_source failed limit rose stop at fails is = stop_of_read (Wanted contents words) failed (contents source_name) limit refusal.SourceTooLong rose stop
-        (λ bytes is_source longer. wanted_of_source contents words stage spec_name source_name are spec rules told accepts bytes
-        (refused refusal.SourceTooLong) is_source (AnswerOf.too_long (omega arith))) fails is
+        (λ bytes is_source longer. wanted_of_source contents words stage spec_name source_name are spec tools told accepts none bytes
+        (refused refusal.SourceTooLong) is_source (AnswerOf.too_long none (omega arith))) fails is
 
-    -- the stage has its answer
-    pub stage_meets : (failed : Type 0) (source : List ℕ) (found : Result (Vec ℕ Global) Stop) → IsTold (contents source_name) source
-        → length source ≤ 4194304 → IfSome (answer_in found) (Makes stage rules source) → found ≢ Err ReadFault
-        → Meets (Wanted contents words) failed found
-    stage_meets failed source found is_source fits made no_fault = (
-      IfSome_then (answer_in found) made (λ answer its.
-          wanted_of_source contents words stage spec_name source_name are spec rules told accepts source answer is_source (makes answer fits its)),
-      λ fault. absurd (no_fault fault),
-    )
+    -- the source is refused
+    pub stop_at_meaning : (failed : Type 0) (source : List ℕ) (r : Why) → IsTold (contents source_name) source
+        → IfSome (answer_in (Err r)) (AnswerOf stage tools source) → Meets (Wanted contents words) failed (Err (stop_of r))
+    stop_at_meaning failed source (why.Refusal r) is_source answers =
+        (wanted_of_source contents words stage spec_name source_name are spec tools told accepts none source (refused r) is_source answers, λ same. cc)
+    stop_at_meaning failed source why.NoMemory is_source free = (tt, λ same. cc)
+
+    -- the stage has its output
+    pub output_meets : (failed : Type 0) (source : List ℕ) (bytes : Vec ℕ Global) → IsTold (contents source_name) source
+        → AnswerOf stage tools source (output bytes.items) → Meets (Wanted contents words) failed (Ok bytes)
+    output_meets failed source bytes is_source answers =
+        (wanted_of_source contents words stage spec_name source_name are spec tools told accepts none source (output bytes.items) is_source answers, λ same. cc)

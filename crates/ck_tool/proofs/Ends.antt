@@ -6,20 +6,17 @@ use Rattle.ck_base.specs.declared.refusal.Refusal.{Refusal}
 use Rattle.ck_base.specs.declared.refusal.Refusal.TheVariants as refusal
 use Rattle.ck_base.specs.declared.status.Status.{Status}
 use Rattle.ck_base.specs.declared.status.Status.TheVariants as status
-use Rattle.ck_tool.specs.Outcome.{Outcome, output, refused, Makes, AnswerOf}
+use Rattle.ck_chain.specs.Outcome.{Outcome, output, refused}
+use Rattle.ck_chain.proofs.AcceptedOrRefused.{spec_never_usage}
+use Rattle.ck_chain.proofs.OneAnswer.{never_usage}
 use Rattle.ck_tool.specs.Ran.{Sunk, Kept, Tells, told, cut, Ran, done, refusing, memory, reading, writing, UsageExactly, WritesOnlyDone, Answers, WantedMemory, NoneRose}
-use Rattle.ck_tool.specs.Wanted.{Settles, by_words, by_spec, by_source, Wanted, AreTold}
+use Rattle.ck_tool.specs.Wanted.{Settles, by_words, by_spec, by_tools, by_source, Wanted, AreTold}
 use Rattle.ck_tool.specs.Words.{AreRight}
-use Rattle.ck_tool.specs.declared.stage.Stage.{Stage}
-use Rattle.ck_tool.specs.declared.stage.Stage.TheVariants as stages
 use Rattle.ck_tool.specs.declared.stop.Stop.{Stop}
 use Rattle.ck_tool.specs.declared.stop.Stop.TheVariants.{Refused, ReadFault, NoMemory}
 use Rattle.ck_tool.specs.within.Stops.{Explains, Meets, answer_in}
-use Rattle.ck_tool.specs.Accepts.{RefusesSpec}
-use Rattle.ck_tool.proofs.AcceptedOrRefused.{not_of_tables}
 use Rattle.ck_tool.proofs.AnswerOfRun.{wanted_of_words}
 use Rattle.ck_tool.proofs.OneOutcome.{one_outcome}
-use Rattle.rex_model.specs.Rules.{Rules}
 
 -- a stop was explained
 pub by_stop : (words : List (List ℕ)) (found : Result (Vec ℕ Global) Stop) (out err : Sunk) (ends : Status) (stop : Stop) → found ≡ Err stop
@@ -52,24 +49,15 @@ pub by_wrong_words : (contents : List ℕ → Option (List ℕ)) (words : List (
 by_wrong_words contents words failed out err ends wrong kept tells =
     refusing ends refusal.Usage (wanted_of_words contents words wrong) kept tells
 
--- no stage answers Usage; one case for each stage
-makes_no_usage : (stage : Stage) (rules : Rules) (source : List ℕ) → Makes stage rules source (refused refusal.Usage) → ⊥
-makes_no_usage stages.Tokens rules source scans = elim scans [ ]
-
 -- Usage is wanted for wrong words alone
 usage_is_wrong : (words files : List (List ℕ)) → Settles words files (refused refusal.Usage) → AreRight words → ⊥
-usage_is_wrong words _ (by_words wrong) right = wrong right
-usage_is_wrong words _ (by_spec stage s x spec _ are refuses) right = never refusal.Usage refuses refl
+usage_is_wrong words files settles right = by files (refused refusal.Usage) settles refl
   where
-    never : (r : Refusal) → RefusesSpec spec r → r ≡ refusal.Usage → ⊥
-    never _ (RefusesSpec.too_long longer) is = cc
-    never _ (RefusesSpec.faulty fits line k fault) is = cc
-    never _ (RefusesSpec.no_tables fits rules error r declares reason given) is = not_of_tables error r given (inl is)
-    never _ (RefusesSpec.unbuilt fits rules line declares have other) is = cc
-usage_is_wrong words _ (by_source stage s x spec source rules _ are accepts answers) right = never answers
-  where
-    never : AnswerOf stage rules source (refused refusal.Usage) → ⊥
-    never (AnswerOf.makes _ fits made) = makes_no_usage stage rules source made
+    by : (files : List (List ℕ)) (o : Outcome) → Settles words files o → o ≡ refused refusal.Usage → ⊥
+    by _ _ (by_words wrong) is = wrong right
+    by _ _ (by_spec stage s x spec r are refuses) is = let same : r ≡ refusal.Usage = cc in spec_never_usage spec (rw same at refuses)
+    by _ _ (by_tools stage s x spec tools section are accepts misses) is = cc
+    by _ _ (by_source stage s x spec source tools o are accepts none answers) is = never_usage stage tools source (rw is at answers)
 
 -- the one refusal with status 1
 usage_of_status : (r : Refusal) → status_of r ≡ status.Usage → r ≡ refusal.Usage

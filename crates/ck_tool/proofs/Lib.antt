@@ -1,14 +1,7 @@
-mod AcceptedOrRefused
 mod AnswerOfRun
 mod Ends
 mod Examples
-mod NextPlace
 mod OneOutcome
 mod OutcomeExamples
-mod PassedOn
-mod PrintedLine
-mod RefusedSpec
-mod ScannedRules
 mod SomeOutcome
 mod ThreeWords
-mod Walk

@@ -1,52 +1,25 @@
 -- A run has one answer to give at most.
-use Rattle.std.proofs.Common.{◌≡◌, ℕ, List, [], ◌∷◌, ◌++◌, refl, sym, ap, ◌∙◌, subst, Option, None, Some, IsSome, append_assoc, arith}
+use Rattle.std.proofs.Common.{◌≡◌, ℕ, List, [], ◌∷◌, ◌++◌, refl, sym, ap, ◌∙◌, subst, Option, None, Some, IsSome, append_assoc, arith, get_or}
 use Rattle.std.proofs.lemmas.List.{append-nil}
-use Rattle.ck_base.specs.declared.refusal.Refusal.{Refusal}
-use Rattle.ck_base.specs.declared.refusal.Refusal.TheVariants as refusal
 use Rattle.ck_io.specs.Contents.{IsTold}
-use Rattle.rex_model.specs.Place.{line_at, column_at}
-use Rattle.rex_model.specs.Run.{finished, bad_at}
-use Rattle.rex_model.specs.Rules.{Rules}
-use Rattle.rex_model.proofs.OneRun.{one_run}
-use Rattle.ck_tool.specs.Outcome.{Outcome, output, refused, Scanning, bad_token, printed, Makes, AnswerOf, makes}
-use Rattle.ck_tool.specs.TokenText.{tokens_text}
-use Rattle.ck_tool.specs.Wanted.{Settles, by_words, by_spec, by_source, names_in, Hold, no_files, one_more, Wanted, Reads, AreTold}
+use Rattle.ck_chain.specs.Answers.{missing_refusal}
+use Rattle.ck_chain.specs.Outcome.{Outcome, refused}
+use Rattle.ck_tool.specs.Wanted.{Settles, by_words, by_spec, by_tools, by_source, names_in, Hold, no_files, one_more, Wanted, Reads, AreTold}
 use Rattle.ck_tool.specs.Words.{AreOfStage, of_stage, name_of}
-use Rattle.ck_tool.specs.declared.stage.Stage.{Stage}
-use Rattle.ck_tool.specs.declared.stage.Stage.TheVariants as stages
-use Rattle.ck_tool.proofs.AcceptedOrRefused.{one_refusal, refused_or_accepted, one_meaning}
-
--- scanning a source has one answer
-one_scanning : (rules : Rules) (source : List ℕ) (o p : Outcome) → Scanning rules source o → Scanning rules source p → o ≡ p
-one_scanning rules source _ _ (bad_token ts at run) (bad_token us at2 run2) =
-    let (lists, ends) = one_run rules.list source 0 0 ts us (bad_at at) (bad_at at2) run run2 in
-    let places : at ≡ at2 = cc in
-    ap (λ place. refused (refusal.BadToken (line_at source place) (column_at source place))) places
-one_scanning rules source _ _ (bad_token ts at run) (printed us run2) =
-    let (lists, ends) = one_run rules.list source 0 0 ts us (bad_at at) finished run run2 in cc
-one_scanning rules source _ _ (printed ts run) (bad_token us at run2) =
-    let (lists, ends) = one_run rules.list source 0 0 ts us finished (bad_at at) run run2 in cc
-one_scanning rules source _ _ (printed ts run) (printed us run2) =
-    let (lists, ends) = one_run rules.list source 0 0 ts us finished finished run run2 in
-    ap (λ all. output (tokens_text rules.tokens source all)) lists
-
--- what a stage makes of a source is one answer; one case for each stage
-one_making : (stage : Stage) (rules : Rules) (source : List ℕ) (o p : Outcome) → Makes stage rules source o → Makes stage rules source p → o ≡ p
-one_making stages.Tokens rules source o p scans scans2 = one_scanning rules source o p scans scans2
-
--- a stage has one answer for a source
-one_answer : (stage : Stage) (rules : Rules) (source : List ℕ) (o p : Outcome) → AnswerOf stage rules source o → AnswerOf stage rules source p → o ≡ p
-one_answer stage rules source _ _ (AnswerOf.too_long longer) (AnswerOf.too_long longer2) = refl
-one_answer stage rules source _ _ (AnswerOf.too_long longer) (makes p fits made) = absurd (omega arith)
-one_answer stage rules source _ _ (makes o fits made) (AnswerOf.too_long longer) = absurd (omega arith)
-one_answer stage rules source _ _ (makes o fits made) (makes p fits2 made2) = one_making stage rules source o p made made2
+use Rattle.ck_chain.specs.declared.stage.Stage.{Stage}
+use Rattle.ck_chain.specs.declared.stage.Stage.TheVariants as stages
+use Rattle.ck_chain.proofs.AcceptedOrRefused.{one_refusal, refused_or_accepted, one_acceptance}
+use Rattle.ck_chain.proofs.OneAnswer.{one_answer, one_missing}
 
 -- each stage has a name of its own
 one_stage : (these those : Stage) → name_of these ≡ name_of those → these ≡ those
 one_stage stages.Tokens stages.Tokens same = refl
+one_stage stages.Tokens stages.Derive same = absurd (omega (arith, ap (λ l. get_or l 0 0) same))
+one_stage stages.Derive stages.Tokens same = absurd (omega (arith, ap (λ l. get_or l 0 0) same))
+one_stage stages.Derive stages.Derive same = refl
 
 -- the words ask for one stage
-same_stage : (words : List (List ℕ)) (s t : Stage) (spec source spec2 source2 : List ℕ) → AreOfStage words s spec source
+pub same_stage : (words : List (List ℕ)) (s t : Stage) (spec source spec2 source2 : List ℕ) → AreOfStage words s spec source
     → AreOfStage words t spec2 source2 → s ≡ t
 same_stage words s t spec source spec2 source2 a b =
     let first = a.words_are in
@@ -58,25 +31,47 @@ pub one_settled : (words files more others : List (List ℕ)) (o p : Outcome) �
     → others ≡ files ++ more → (more ≡ []) × (o ≡ p)
 one_settled words _ more _ _ _ (by_words wrong) (by_words wrong2) same = (sym same, refl)
 one_settled words _ more _ _ _ (by_words wrong) (by_spec stage s x spec r are refuses) same = absurd (wrong (of_stage stage s x are))
-one_settled words _ more _ _ _ (by_words wrong) (by_source stage s x spec source rules p are accepts answers) same =
+one_settled words _ more _ _ _ (by_words wrong) (by_tools stage s x spec tools section are accepts misses) same = absurd (wrong (of_stage stage s x are))
+one_settled words _ more _ _ _ (by_words wrong) (by_source stage s x spec source tools p are accepts none answers) same =
     absurd (wrong (of_stage stage s x are))
 one_settled words _ more _ _ _ (by_spec stage s x spec r are refuses) (by_words wrong) same = absurd (wrong (of_stage stage s x are))
 one_settled words _ more _ _ _ (by_spec stage s x spec r are refuses) (by_spec stage2 s2 x2 spec2 r2 are2 refuses2) same =
     let specs : spec ≡ spec2 = cc in
     (cc, ap (λ all. refused all) (one_refusal spec2 r r2 (rw specs at refuses) refuses2))
-one_settled words _ more _ _ _ (by_spec stage s x spec r are refuses) (by_source stage2 s2 x2 spec2 source rules p are2 accepts answers) same =
+one_settled words _ more _ _ _ (by_spec stage s x spec r are refuses) (by_tools stage2 s2 x2 spec2 tools section are2 accepts misses) same =
     let specs : spec ≡ spec2 = cc in
-    absurd (refused_or_accepted spec2 r rules (rw specs at refuses) accepts)
-one_settled words _ more _ _ _ (by_source stage s x spec source rules o are accepts answers) (by_words wrong) same =
+    absurd (refused_or_accepted spec2 r tools (rw specs at refuses) accepts)
+one_settled words _ more _ _ _ (by_spec stage s x spec r are refuses) (by_source stage2 s2 x2 spec2 source tools p are2 accepts none answers) same =
+    let specs : spec ≡ spec2 = cc in
+    absurd (refused_or_accepted spec2 r tools (rw specs at refuses) accepts)
+one_settled words _ more _ _ _ (by_tools stage s x spec tools section are accepts misses) (by_words wrong) same = absurd (wrong (of_stage stage s x are))
+one_settled words _ more _ _ _ (by_tools stage s x spec tools section are accepts misses) (by_spec stage2 s2 x2 spec2 r are2 refuses) same =
+    let specs : spec2 ≡ spec = cc in
+    absurd (refused_or_accepted spec r tools (rw specs at refuses) accepts)
+one_settled words _ more _ _ _ (by_tools stage s x spec tools section are accepts misses)
+    (by_tools stage2 s2 x2 spec2 tools2 section2 are2 accepts2 misses2) same =
+    let specs : spec ≡ spec2 = cc in
+    let stage_is = same_stage words stage stage2 s x s2 x2 are are2 in
+    let same_tools = one_acceptance spec2 tools tools2 (rw specs at accepts) accepts2 in
+    (cc, ap (λ all. refused (missing_refusal all)) (one_missing tools2 stage2 section section2 (rw (stage_is, same_tools) at misses) misses2))
+one_settled words _ more _ _ _ (by_tools stage s x spec tools section are accepts misses)
+    (by_source stage2 s2 x2 spec2 source tools2 p are2 accepts2 none answers) same =
+    let specs : spec ≡ spec2 = cc in
+    let stage_is = same_stage words stage stage2 s x s2 x2 are are2 in
+    let same_tools = one_acceptance spec2 tools tools2 (rw specs at accepts) accepts2 in
+    absurd (none section (rw (stage_is, same_tools) at misses))
+one_settled words _ more _ _ _ (by_source stage s x spec source tools o are accepts none answers) (by_words wrong) same =
     absurd (wrong (of_stage stage s x are))
-one_settled words _ more _ _ _ (by_source stage s x spec source rules o are accepts answers) (by_spec stage2 s2 x2 spec2 r are2 refuses) same = cc
-one_settled words _ more _ _ _ (by_source stage s x spec source rules o are accepts answers)
-    (by_source stage2 s2 x2 spec2 source2 rules2 p are2 accepts2 answers2) same =
+one_settled words _ more _ _ _ (by_source stage s x spec source tools o are accepts none answers) (by_spec stage2 s2 x2 spec2 r are2 refuses) same = cc
+one_settled words _ more _ _ _ (by_source stage s x spec source tools o are accepts none answers)
+    (by_tools stage2 s2 x2 spec2 tools2 section are2 accepts2 misses) same = cc
+one_settled words _ more _ _ _ (by_source stage s x spec source tools o are accepts none answers)
+    (by_source stage2 s2 x2 spec2 source2 tools2 p are2 accepts2 none2 answers2) same =
     let specs : spec ≡ spec2 = cc in
     let sources : source ≡ source2 = cc in
     let stage_is = same_stage words stage stage2 s x s2 x2 are are2 in
-    let meanings = one_meaning spec2 rules rules2 (rw specs at accepts) accepts2 in
-    (cc, one_answer stage2 rules2 source2 o p (rw (stage_is, sources, meanings) at answers) answers2)
+    let same_tools = one_acceptance spec2 tools tools2 (rw specs at accepts) accepts2 in
+    (cc, one_answer spec2 tools2 accepts2 source2 stage2 o p (rw (stage_is, sources, same_tools) at answers) answers2)
 
 -- a file that is told has these bytes alone
 one_told : (told : Option (List ℕ)) (bytes others : List ℕ) → IsSome told → IsTold told bytes → IsTold told others → bytes ≡ others

@@ -9,19 +9,17 @@ use Rattle.ck_base.specs.declared.refusal.Refusal.TheVariants as refusal
 use Rattle.ck_base.specs.declared.status.Status.{Status}
 use Rattle.ck_base.specs.declared.status.Status.TheVariants as status
 use Rattle.ck_io.specs.Contents.{IsTold}
-use Rattle.rex_model.specs.Rules.{Rules}
 use Rattle.rex_model.specs.Run.{Tokens}
-use Rattle.ck_base.specs.Counts.{HasMoreThan}
-use Rattle.front_spec.specs.RexRules.{rules_by}
-use Rattle.front_spec.proofs.RexExamples.{rex_end_declares}
-use Rattle.spec_text.proofs.SectionExamples.{rex_end_file, rex_end_no_other, empty_file}
-use Rattle.ck_tool.specs.Accepts.{of_sections, HaveTables, RefusesSpec, too_long, faulty, no_tables, unbuilt, Accepts}
-use Rattle.ck_tool.proofs.AcceptedOrRefused.{not_of_tables}
-use Rattle.ck_tool.specs.Outcome.{Outcome, output, refused, AnswerOf, bad_token, printed, makes}
+use Rattle.spec_text.proofs.SectionExamples.{rex_end_file, empty_file}
+use Rattle.ck_chain.specs.Accepts.{of_sections}
+use Rattle.ck_chain.specs.Answers.{makes, tokens}
+use Rattle.ck_chain.specs.Outcome.{Outcome, output, refused}
+use Rattle.ck_chain.specs.Scanning.{bad_token, printed}
+use Rattle.ck_chain.specs.declared.stage.Stage.TheVariants.{Tokens as of_tokens}
+use Rattle.ck_chain.proofs.Examples.{accepts_none, tokens_need_none}
 use Rattle.ck_tool.specs.Ran.{Sunk, Kept, FaultsRose, WritesOnlyDone, Gained, GainedPart, Answers, UsageExactly, Tells, told, cut, Ran, done, refusing, memory, reading, writing, ended}
 use Rattle.ck_tool.specs.Wanted.{Settles, by_spec, names_in, Hold, no_files, one_more, Wanted, Reads}
 use Rattle.ck_tool.specs.Words.{AreOfStage, AreRight, of_stage}
-use Rattle.ck_tool.specs.declared.stage.Stage.TheVariants.{Tokens as of_tokens}
 use Rattle.ck_tool.proofs.AnswerOfRun.{wanted_of_words, wanted_of_spec, wanted_of_source}
 
 -- the words `tokens s x`
@@ -38,41 +36,22 @@ one_file contents = wanted_of_words contents _ wrong
     wrong : AreRight (codes "tokens" ∷ codes "s" ∷ []) → ⊥
     wrong (of_stage stage spec source are) = let is = are.words_are in cc
 
--- no rules have tables of no state at all
-none_more : {A : Type 0} {is_one : A → Type 0} {alike : A → A → Type 0} → ((a : A) → is_one a → ⊥) → HasMoreThan is_one alike 4096 → ⊥
-none_more {A} {is_one} none more = by more.some more.each more.many
-  where
-    by : (some : List A) → ((i : ℕ) (a : A) → slice_get some i ≡ Some a → is_one a) → 4096 < length some → ⊥
-    by [] each many = omega (arith, many)
-    by (a ∷ some) each many = none a (each 0 a refl)
-
-no_states : HaveTables (rules_by [])
-no_states = record {
-  bodies = λ i is. let at = is.is_rule in cc;
-  scanner = none_more (λ way is. is.filled (λ q comes. comes.1));
-  splits = none_more (λ way is. is.filled (λ q comes. let at = comes.2 in cc));
-}
-
--- a specification without rules is accepted
-accepts_none : Accepts rex_end_file (rules_by [])
-accepts_none = record { fits = omega arith; declares = rex_end_declares; tables = no_states; all_built = rex_end_no_other }
-
 module _ (contents : List ℕ → Option (List ℕ)) where
   -- no rules and an empty source: `1:1 END` is printed
   wants_end : contents (codes "s") ≡ Some rex_end_file → contents (codes "x") ≡ Some [] → Wanted contents words (output (codes "1:1 END" ++ 10 ∷ []))
   unfolding digits
-  wants_end spec source = wanted_of_source contents words of_tokens _ _ are_tokens rex_end_file _ (rw spec refl) accepts_none [] _ (rw source refl)
-      (makes _ (omega arith) (printed [] (Tokens.end 0 0 refl)))
+  wants_end spec source = wanted_of_source contents words of_tokens _ _ are_tokens rex_end_file _ (rw spec refl) accepts_none (tokens_need_none _) [] _ (rw source refl)
+      (makes _ (tokens_need_none _) (omega arith) (tokens _ (printed [] (Tokens.end 0 0 refl))))
 
   -- no rules and any byte: its place is bad
   wants_bad_token : contents (codes "s") ≡ Some rex_end_file → contents (codes "x") ≡ Some (codes "a")
       → Wanted contents words (refused (refusal.BadToken 1 1))
-  wants_bad_token spec source = wanted_of_source contents words of_tokens _ _ are_tokens rex_end_file _ (rw spec refl) accepts_none (codes "a") _
-      (rw source refl) (makes _ (omega arith) (bad_token [] 0 (Tokens.bad 0 0 (omega arith) (λ i n m c. let is = c.is_rule in cc))))
+  wants_bad_token spec source = wanted_of_source contents words of_tokens _ _ are_tokens rex_end_file _ (rw spec refl) accepts_none (tokens_need_none _) (codes "a") _
+      (rw source refl) (makes _ (tokens_need_none _) (omega arith) (tokens _ (bad_token [] 0 (Tokens.bad 0 0 (omega arith) (λ i n m c. let is = c.is_rule in cc)))))
 
   -- an empty specification is refused for its first line, whatever the source is
   wants_bad_spec : contents (codes "s") ≡ Some [] → Wanted contents words (refused (refusal.BadSpec 1 Section))
-  wants_bad_spec spec = wanted_of_spec contents words of_tokens _ _ are_tokens [] _ (rw spec refl) (faulty (omega arith) 1 Section (of_sections 1 empty_file))
+  wants_bad_spec spec = wanted_of_spec contents words of_tokens _ _ are_tokens [] _ (rw spec refl) (of_sections (omega arith) 1 empty_file)
 
   -- and the source isn't read then
   refused_reads_no_source : contents (codes "s") ≡ Some [] → Reads contents words (codes "x") → ⊥
@@ -92,28 +71,9 @@ module _ (contents : List ℕ → Option (List ℕ)) where
           let first : name ≡ codes "s" = cc in
           let empty : bytes ≡ [] = same_bytes (contents name) bytes (subst (λ n. contents n ≡ Some []) (sym first) spec) is in
           unsettled (bytes ∷ []) [] refl (refused (refusal.BadSpec 1 Section)) (by_spec of_tokens (codes "s") (codes "x") bytes _ are_tokens
-          (rw empty (faulty (omega arith) 1 Section (of_sections 1 empty_file))))
+          (rw empty (of_sections (omega arith) 1 empty_file)))
       none_before (name ∷ other ∷ []) others files named hold unsettled = cc
       none_before (name ∷ other ∷ next ∷ more) others files named hold unsettled = cc
-
--- a specification with the very last byte that it may have isn't too long
-at_the_limit : (spec : List ℕ) → length spec ≡ 1048576 → RefusesSpec spec refusal.SpecTooLong → ⊥
-at_the_limit spec size refuses = by refusal.SpecTooLong refuses refl
-  where
-    by : (r : Refusal) → RefusesSpec spec r → r ≡ refusal.SpecTooLong → ⊥
-    by _ (too_long longer) is = omega arith
-    by _ (faulty fits line k fault) is = cc
-    by _ (no_tables fits rules error r declares reason given) is = not_of_tables error r given (inr is)
-    by _ (unbuilt fits rules line declares have other) is = cc
-
--- one with a byte more is, whatever stands in it
-past_the_limit : (spec : List ℕ) → length spec ≡ 1048577 → RefusesSpec spec refusal.SpecTooLong
-past_the_limit spec size = too_long (omega arith)
-
--- nor is a source
-source_at_the_limit : (rules : Rules) (source : List ℕ) → length source ≡ 4194304 → AnswerOf of_tokens rules source (refused refusal.SourceTooLong) → ⊥
-source_at_the_limit rules source size (AnswerOf.too_long longer) = omega arith
-source_at_the_limit rules source size (makes _ fits made) = elim made [ ]
 
 -- a sink that took all bytes didn't take a part of them, whatever its count says
 whole_is_no_part : (count : ℕ) → GainedPart (record { old = Some []; new = Some (codes "ab"); before = 0; now = count }) (codes "ab") → ⊥

@@ -6,7 +6,7 @@ use Rattle.ck_base.specs.declared.status.Status.{Status}
 use Rattle.ck_base.specs.declared.status.Status.TheVariants.{Done, Usage, Device, Memory}
 use Rattle.std.specs.Io.KnownBytes.{Appends}
 use Rattle.ck_io.specs.Faults.{Rose}
-use Rattle.ck_tool.specs.Outcome.{Outcome, output, refused}
+use Rattle.ck_chain.specs.Outcome.{Outcome, output, refused}
 use Rattle.ck_tool.specs.Words.{AreRight}
 
 -- a sink before and after a run: what it tells of its bytes, and its count of faults

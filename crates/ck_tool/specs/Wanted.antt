@@ -5,10 +5,12 @@ use Rattle.ck_base.specs.declared.refusal.Refusal.{Refusal}
 use Rattle.ck_base.specs.declared.refusal.Refusal.TheVariants.{Usage}
 use Rattle.ck_io.specs.Contents.{IsTold}
 use Rattle.ck_io.specs.Faults.{Rose}
-use Rattle.rex_model.specs.Rules.{Rules}
-use Rattle.ck_tool.specs.declared.stage.Stage.{Stage}
-use Rattle.ck_tool.specs.Accepts.{RefusesSpec, Accepts}
-use Rattle.ck_tool.specs.Outcome.{Outcome, refused, AnswerOf}
+use Rattle.ck_chain.specs.declared.stage.Stage.{Stage}
+use Rattle.ck_chain.specs.Accepts.{RefusesSpec, Accepts}
+use Rattle.ck_chain.specs.Answers.{AnswerOf, Misses, missing_refusal}
+use Rattle.ck_chain.specs.Outcome.{Outcome, refused}
+use Rattle.ck_chain.specs.Tools.{Tools}
+use Rattle.spec_text.specs.declared.section.Section.{Section}
 use Rattle.ck_tool.specs.Words.{AreOfStage, AreRight}
 
 -- the bytes of the first files that the words name settle this answer, and fewer of them settle none
@@ -17,9 +19,12 @@ pub data Settles (words : List (List ℕ)) : List (List ℕ) → Outcome → Typ
   by_spec : (stage : Stage) (spec_name source_name spec : List ℕ) (r : Refusal)
       → AreOfStage words stage spec_name source_name → RefusesSpec spec r
       → Settles words (spec ∷ []) (refused r)
-  by_source : (stage : Stage) (spec_name source_name spec source : List ℕ) (rules : Rules)
-      (answer : Outcome) → AreOfStage words stage spec_name source_name → Accepts spec rules
-      → AnswerOf stage rules source answer → Settles words (spec ∷ source ∷ []) answer
+  by_tools : (stage : Stage) (spec_name source_name spec : List ℕ) (tools : Tools) (section : Section)
+      → AreOfStage words stage spec_name source_name → Accepts spec tools → Misses tools stage section
+      → Settles words (spec ∷ []) (refused (missing_refusal section))
+  by_source : (stage : Stage) (spec_name source_name spec source : List ℕ) (tools : Tools)
+      (answer : Outcome) → AreOfStage words stage spec_name source_name → Accepts spec tools
+      → HasNo (Misses tools stage) → AnswerOf stage tools source answer → Settles words (spec ∷ source ∷ []) answer
 
 -- the names of files: the words behind the command
 abbrev pub names_in : List (List ℕ) → List (List ℕ)

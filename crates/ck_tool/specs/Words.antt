@@ -1,11 +1,12 @@
 -- Which words of a command line are right, and what they ask for.
 use Rattle.std.specs.Prelude.{◌≡◌, ◌≢◌, ℕ, List, [], ◌∷◌, codes}
-use Rattle.ck_tool.specs.declared.stage.Stage.{Stage}
-use Rattle.ck_tool.specs.declared.stage.Stage.TheVariants.{Tokens}
+use Rattle.ck_chain.specs.declared.stage.Stage.{Stage}
+use Rattle.ck_chain.specs.declared.stage.Stage.TheVariants.{Tokens, Derive}
 
 -- the command that asks for the stage
 abbrev pub name_of : Stage → List ℕ
 name_of Tokens = codes "tokens"
+name_of Derive = codes "derive"
 
 -- a file's name: not empty, and not beginning with `-`
 abbrev pub IsFileName : List ℕ → Type 0

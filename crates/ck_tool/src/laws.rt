@@ -1,6 +1,6 @@
 ghost use Rattle.std.specs.Prelude.{◌≡◌, ℕ, List, map, string_bytes};
 ghost use Rattle.ck_base.specs.Found.{HasNo};
-ghost use Rattle.ck_tool.specs.Outcome.{Outcome};
+ghost use Rattle.ck_chain.specs.Outcome.{Outcome};
 ghost use Rattle.ck_tool.specs.Wanted.{AreTold, Wanted};
 
 use ck_io::Files;

@@ -6,23 +6,15 @@
 //! | what a run is to answer, and which files it reads | `specs/Wanted.antt` |
 //! | how a run ends | `specs/Ran.antt`; `src/stop.rt`, `src/telling.rt` |
 //! | which words are right, and the stage that they ask for | `src/words.rt`, `src/stage.rt`; `specs/Words.antt` |
-//! | which specifications are accepted | `specs/Accepts.antt` |
-//! | its scan rules and their tables, or why it is refused | `src/accepting.rt` |
-//! | what a stage makes of a source | `specs/Outcome.antt` |
-//! | its tokens as text | `src/token_text.rt`, `src/quote.rt`; `specs/TokenText.antt` |
-//! | line and column of a place | `src/place.rt` |
+//! | which specifications are accepted, and what a stage makes of a source | `ck_chain` |
 //! | words of contracts within the crate | `specs/within.antt` |
 //! | a run has one answer | `src/laws.rt`; `proofs/OneOutcome.antt`, `proofs/SomeOutcome.antt` |
 #![tactic(auto)]
 
-mod accepting;
 mod laws;
-mod place;
-mod quote;
 mod stage;
 mod stop;
 mod telling;
-mod token_text;
 mod top;
 mod words;
 

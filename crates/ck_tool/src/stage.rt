@@ -2,12 +2,7 @@ ghost use Rattle.std.specs.Prelude.{◌≡◌};
 ghost use Rattle.ck_base.specs.Found.{Finds};
 ghost use Rattle.ck_tool.specs.Words.{name_of};
 
-/// What is made of a source; each stage has a command of its own.
-#[derive(Clone, Copy)]
-pub(crate) enum Stage {
-    /// Its tokens by the scan rules of a specification, with their places.
-    Tokens,
-}
+use ck_chain::Stage;
 
 /// The stage that the command asks for.
 pub(crate) fn stage_of(command: &str) -> Option<Stage>
@@ -15,6 +10,7 @@ pub(crate) fn stage_of(command: &str) -> Option<Stage>
 {
     match command {
         "tokens" => Some(Stage::Tokens),
+        "derive" => Some(Stage::Derive),
         _ => None,
     }
 }

@@ -1,8 +1,8 @@
 ghost use Rattle.std.specs.Prelude.{◌≡◌};
 ghost use Rattle.ck_tool.specs.within.Stops.{stop_of};
-ghost use Rattle.ck_tool.specs.declared.stop.Stop.TheVariants.{NoMemory as no_memory};
 
-use ck_base::{NoMemory, Refusal, SpecFault};
+use ck_base::Refusal;
+use ck_chain::Refused;
 
 /// Why there is no output.
 #[derive(Drop)]
@@ -15,21 +15,13 @@ pub(crate) enum Stop {
     NoMemory,
 }
 
-impl From<NoMemory> for Stop {
-    ghost from_gives = { λ _ stop. stop ≡ no_memory };
+impl From<Refused> for Stop {
+    ghost from_gives = { λ refused stop. stop ≡ stop_of refused };
 
-    fn from(_: NoMemory) -> Stop {
-        Stop::NoMemory
-    }
-}
-
-impl From<SpecFault> for Stop {
-    ghost from_gives = { λ fault stop. stop ≡ stop_of fault };
-
-    fn from(fault: SpecFault) -> Stop {
-        match fault {
-            SpecFault::Bad { line, kind } => Stop::Refused(Refusal::BadSpec { line, kind }),
-            SpecFault::NoMemory => Stop::NoMemory,
+    fn from(refused: Refused) -> Stop {
+        match refused {
+            Refused::Refusal(refusal) => Stop::Refused(refusal),
+            Refused::NoMemory => Stop::NoMemory,
         }
     }
 }

@@ -1,23 +1,21 @@
-ghost use Rattle.std.specs.Prelude.{◌≡◌, ◌≢◌, ◌+◌, ◌^◌, ◌<◌, ◌≤◌, ◌⊎◌, ℕ, List, length, map, string_bytes, IfOk, IfErr, IfSome};
+ghost use Rattle.std.specs.Prelude.{◌≡◌, ◌+◌, ◌^◌, ◌<◌, ◌≤◌, ◌⊎◌, ℕ, List, length, map, string_bytes, IfOk, IfErr, OnOk};
 ghost use Rattle.ck_io.specs.Contents.{IsLonger, IsTold, SameContents};
 ghost use Rattle.ck_io.specs.Faults.{Rose, NoneFell};
-ghost use Rattle.rex_model.specs.RuleMeaning.{rules_of};
-ghost use Rattle.ck_tool.specs.Outcome.{Outcome, Makes};
+ghost use Rattle.ck_base.specs.Found.{HasNo};
+ghost use Rattle.ck_chain.specs.Answers.{Misses};
+ghost use Rattle.ck_chain.specs.Outcome.{Outcome};
+ghost use Rattle.ck_chain.specs.Promise.{tools_of};
 ghost use Rattle.ck_tool.specs.Ran.{Answers, NoneRose, Ran, UsageExactly, WantedMemory, WritesOnlyDone, sunk};
 ghost use Rattle.ck_tool.specs.Wanted.{AreTold, ReadFailed, Wanted};
 ghost use Rattle.ck_tool.specs.Words.{AreRight};
-ghost use Rattle.rex_model.specs.TableMeaning.{tables_of};
-ghost use Rattle.ck_tool.specs.within.Scanners.{NameTokens, ScansBy};
-ghost use Rattle.ck_tool.specs.within.Stops.{Explains, IsAsked, IsStopOfRead, Meets, answer_in};
+ghost use Rattle.ck_tool.specs.within.Stops.{Explains, IsAsked, IsMissing, IsStopOfRead, Meets, answer_in};
 
-use crate::accepting::{Accepted, accept};
-use crate::stage::Stage;
 use crate::stop::Stop;
 use crate::telling::tell;
-use crate::token_text::tokens_text;
 use crate::words::{Command, command_of};
 use bumpalo::Bump;
 use ck_base::{MEMORY_LINE, NoMemory, READ_LINE, Refusal, Status, USAGE_LINE, WRITE_LINE};
+use ck_chain::{Refused, Stage, Toolset, accept, meaning, without_section};
 use ck_io::{Files, LoadError, Sink, load, put_all};
 use std::alloc::Global;
 
@@ -31,7 +29,8 @@ const SOURCE_LIMIT: usize = 4_194_304;
 ///
 /// ```text
 /// words            after it a stage, a specification and a source are named
-/// specification    after it the scan rules are known; a fault refuses it
+/// specification    after it what it declares is known; a fault refuses it
+/// its sections     after it the stage has what it needs; a missing section refuses it
 /// source           after it what the stage makes of it is known; a bad place refuses it
 /// output           only now is `out` written to
 /// ```
@@ -77,7 +76,8 @@ fn answer_of<F: Files>(alloc: Global, command: Command, files: &mut F) -> Result
 {
     let spec = read(alloc, files, command.spec, SPEC_LIMIT, Refusal::SpecTooLong)?;
     let arena = Bump::new(alloc);
-    let accepted = accept(alloc, &arena, spec.as_slice())?;
+    let tools = accept(alloc, &arena, spec.as_slice())?;
+    needs(alloc, &tools, command.stage)?;
     let source = read(
         alloc,
         files,
@@ -85,25 +85,18 @@ fn answer_of<F: Files>(alloc: Global, command: Command, files: &mut F) -> Result
         SOURCE_LIMIT,
         Refusal::SourceTooLong,
     )?;
-    make(alloc, command.stage, &accepted, source.as_slice())
+    let output = meaning(alloc, &tools, source.as_slice(), command.stage)?;
+    Ok(output)
 }
 
-/// What the stage makes of the source, or why it is refused.
-fn make(
-    alloc: Global,
-    stage: Stage,
-    accepted: &Accepted<'_>,
-    source: &[u8],
-) -> Result<Vec<u8>, Stop>
-    requires scans { ScansBy (rules_of accepted.now.rules) (tables_of accepted.now.tables) }
-    requires named { NameTokens accepted.now.rules }
-    requires small { length source.now + 1 < 2 ^ 32 }
-    ensures answer { IfSome (answer_in result)
-        (Makes stage (rules_of accepted.now.rules) source.now) }
-    ensures reads_nothing { result ≢ Err Stop.ReadFault }
+/// Whether the specification has all sections that the stage needs; else the refusal.
+fn needs(alloc: Global, tools: &Toolset<'_>, stage: Stage) -> Result<(), Refused>
+    ensures all { OnOk result (HasNo (Misses (tools_of tools.now) stage)) }
+    ensures missing { IfErr result (IsMissing (tools_of tools.now) stage) }
 {
-    match stage {
-        Stage::Tokens => tokens_text(alloc, &accepted.rules, &accepted.tables, source),
+    match tools.missing(stage) {
+        Some(section) => Err(without_section(alloc, section)),
+        None => Ok(()),
     }
 }
 

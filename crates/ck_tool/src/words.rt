@@ -2,7 +2,8 @@ ghost use Rattle.std.specs.Prelude.{◌↔◌, IsTrue, MatchOption, map, string_
 ghost use Rattle.ck_tool.specs.Words.{IsFileName, AreRight};
 ghost use Rattle.ck_tool.specs.within.Stops.{IsAsked};
 
-use crate::stage::{Stage, stage_of};
+use crate::stage::stage_of;
+use ck_chain::Stage;
 
 /// What right words ask for: a stage, of the source by the specification. Both are names of files.
 #[derive(Clone, Copy)]

@@ -26,9 +26,10 @@ use judging::{Tally, judge};
 use std::fs;
 
 /// The files of cases.
-const FILES: [&str; 7] = [
+const FILES: [&str; 8] = [
     "examples.txt",
     "tokens.txt",
+    "derive.txt",
     "specifications.txt",
     "notation.txt",
     "scanning.txt",

@@ -2,14 +2,17 @@
 use Rattle.std.specs.Prelude.{◌≡◌, ℕ, ◌⊎◌, List, Option, Some, None, IfSome, Vec, Result, Ok, Err, codes}
 use Rattle.std.specs.Global.{Global}
 use Rattle.ck_base.specs.Lines.{line_of, status_of}
-use Rattle.ck_base.specs.declared.fault.SpecFault.{SpecFault}
-use Rattle.ck_base.specs.declared.fault.SpecFault.TheVariants as fault
 use Rattle.ck_base.specs.declared.refusal.Refusal.{Refusal}
-use Rattle.ck_base.specs.declared.refusal.Refusal.TheVariants as refusal
 use Rattle.ck_base.specs.declared.status.Status.{Status}
 use Rattle.ck_base.specs.declared.status.Status.TheVariants as status
-use Rattle.ck_tool.specs.Accepts.{RefusesSpec}
-use Rattle.ck_tool.specs.Outcome.{Outcome, output, refused}
+use Rattle.spec_text.specs.declared.section.Section.{Section}
+use Rattle.ck_chain.specs.Answers.{Misses, missing_refusal}
+use Rattle.ck_chain.specs.Promise.{Refuses}
+use Rattle.ck_chain.specs.Tools.{Tools}
+use Rattle.ck_chain.specs.declared.stage.Stage.{Stage}
+use Rattle.ck_chain.specs.Outcome.{Outcome, output, refused}
+use Rattle.ck_chain.specs.declared.refused.Refused.{Refused as Why}
+use Rattle.ck_chain.specs.declared.refused.Refused.TheVariants as why
 use Rattle.ck_tool.specs.Ran.{Sunk, Tells}
 use Rattle.ck_tool.specs.Words.{AreOfStage}
 use Rattle.ck_tool.specs.declared.stop.Stop.{Stop}
@@ -27,16 +30,15 @@ IsStopOfRead too_long longer rose (Refused r) = (r ≡ too_long) × longer
 IsStopOfRead too_long longer rose ReadFault = rose
 IsStopOfRead too_long longer rose NoMemory = Unit {0}
 
--- the stop is a refusal of the specification, or for want of memory
-abbrev pub IsStopOfSpec : List ℕ → Stop → Type 0
-IsStopOfSpec spec (Refused r) = RefusesSpec spec r
-IsStopOfSpec spec ReadFault = ⊥
-IsStopOfSpec spec NoMemory = Unit {0}
+-- the stage misses a section, and it is the refusal for that, or want of memory
+abbrev pub IsMissing : Tools → Stage → Why → Type 0
+IsMissing tools stage reason =
+    (section : Section) × Misses tools stage section × Refuses (λ r. r ≡ missing_refusal section) reason
 
--- the stop for a fault of the specification
-abbrev pub stop_of : SpecFault → Stop
-stop_of (fault.Bad line kind) = Refused (refusal.BadSpec line kind)
-stop_of fault.NoMemory = NoMemory
+-- the stop for a refusal
+abbrev pub stop_of : Why → Stop
+stop_of (why.Refusal r) = Refused r
+stop_of why.NoMemory = NoMemory
 
 -- the answer that was found: the output, or the refusal that was met
 abbrev pub answer_in : Result (Vec ℕ Global) Stop → Option Outcome

@@ -1,0 +1,12 @@
+pub mod Accepts
+pub mod Answers
+pub mod DeriveText
+pub mod Deriving
+pub mod GrammarAccepts
+pub mod Outcome
+pub mod Promise
+pub mod RexAccepts
+pub mod Scanning
+pub mod TokenText
+pub mod Tools
+pub mod within
