@@ -28,19 +28,10 @@ use Rattle.ck_chain.specs.GrammarAccepts.{absent, label_of, terminal_name}
 use Rattle.ck_chain.specs.Outcome.{Outcome, refused}
 use Rattle.ck_chain.specs.RexAccepts.{HaveTables}
 use Rattle.ck_chain.specs.Scanning.{Scanning}
-use Rattle.ck_chain.specs.TokenText.{quoted, token_line, tokens_text}
+use Rattle.ck_chain.specs.TokenText.{token_line, tokens_text}
 use Rattle.ck_chain.specs.Tools.{Tools}
 use Rattle.ck_chain.specs.declared.stage.Stage.{Stage}
 use Rattle.ck_chain.specs.declared.stage.Stage.TheVariants.{Tokens as of_tokens, Derive as of_derive}
-
--- `a"\` and the bytes 0x01 and 0xff are printed `"a\"\\\x01\xff"`
-quoted_bytes : quoted (97 ∷ 34 ∷ 92 ∷ 1 ∷ 255 ∷ [])
-    ≡ 34 ∷ 97 ∷ 92 ∷ 34 ∷ 92 ∷ 92 ∷ 92 ∷ 120 ∷ 48 ∷ 49 ∷ 92 ∷ 120 ∷ 102 ∷ 102 ∷ 34 ∷ []
-quoted_bytes = refl
-
--- no byte at all is printed `""`
-quoted_nothing : quoted [] ≡ 34 ∷ 34 ∷ []
-quoted_nothing = refl
 
 -- the token `b` behind a line feed and a blank is printed `2:2 ID "b"`
 second_line : token_line (codes "IF" ∷ codes "ID" ∷ []) (codes "if" ++ 10 ∷ codes " b") (record { number = 1; from = 4; to = 5 })

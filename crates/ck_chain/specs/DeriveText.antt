@@ -3,7 +3,7 @@ use Rattle.std.specs.Prelude.{ℕ, List, [], ◌∷◌, ◌++◌, flat_map, code
 use Rattle.cfg_model.specs.Derivation.{Move, shift, reduce}
 use Rattle.parse_driver.specs.declared.tokens.TokenRef.{TokenRef}
 use Rattle.ck_chain.specs.GrammarAccepts.{label_of}
-use Rattle.ck_chain.specs.TokenText.{quoted}
+use Rattle.quoting.specs.Quoted.{quoted}
 
 -- the line of a token that is shifted: its name and its text
 abbrev pub shift_line : List (List ℕ) → List ℕ → TokenRef → List ℕ

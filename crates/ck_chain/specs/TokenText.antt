@@ -1,24 +1,9 @@
 -- The printed form of the tokens of a text.
-use Rattle.std.specs.Prelude.{ℕ, ◌+◌, ◌/◌, ◌%◌, ◌==◌, ◌&&◌, if◌then◌else◌, nat_le, nat_lt, List, [], ◌∷◌, ◌++◌, length, flat_map, codes, slice_range, slice_index_or}
+use Rattle.std.specs.Prelude.{ℕ, List, [], ◌∷◌, ◌++◌, length, flat_map, codes, slice_range, slice_index_or}
 use Rattle.std.specs.Fmt.{decimal}
+use Rattle.quoting.specs.Quoted.{quoted}
 use Rattle.rex_model.specs.Place.{line_at, column_at}
 use Rattle.rex_model.specs.Run.{Token}
-
--- a hexadecimal digit, in lower case
-abbrev pub hex_digit : ℕ → ℕ
-hex_digit n = if nat_lt n 10 then 48 + n else 87 + n
-
--- a byte of a quoted text: `\"`, `\\`, itself from 0x20 to 0x7E, else `\x` and two digits
-abbrev pub quoted_byte : ℕ → List ℕ
-quoted_byte byte =
-    if byte == 34 then 92 ∷ 34 ∷ [] else
-    if byte == 92 then 92 ∷ 92 ∷ [] else
-    if nat_le 32 byte && nat_le byte 126 then byte ∷ [] else
-    92 ∷ 120 ∷ hex_digit (byte / 16) ∷ hex_digit (byte % 16) ∷ []
-
--- a text in quotes
-abbrev pub quoted : List ℕ → List ℕ
-quoted text = 34 ∷ (flat_map quoted_byte text ++ 34 ∷ [])
 
 -- `line:col ` of a place
 abbrev pub place_text : List ℕ → ℕ → List ℕ

@@ -4,9 +4,9 @@ ghost use Rattle.ck_chain.specs.DeriveText.{derive_text, move_line, reduce_line,
 ghost use Rattle.ck_chain.specs.within.Steps.{IsInside, IsTokenInside};
 
 use crate::naming::{label_at, name_at};
-use crate::quote::push_quoted;
 use ck_base::{Names, NoMemory};
 use parse_driver::{Step, TokenRef};
+use quoting::push_quoted;
 use std::alloc::Global;
 
 /// The printed steps, a line each. `names` are those of tokens, and `labels` those of rules.

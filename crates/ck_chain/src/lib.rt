@@ -6,7 +6,7 @@
 //! | the tools of an accepted one, reader by reader | `src/accepting.rt`, `src/toolset.rt`; `specs/Tools.antt`, `specs/Promise.antt` |
 //! | a grammar's parser, or its refusal with its names | `src/parser.rt`, `src/naming.rt` |
 //! | what a stage makes of a source, or the first refusal | `src/answering.rt`, `src/stage.rt`; `specs/Answers.antt` |
-//! | its tokens as text | `src/token_text.rt`, `src/quote.rt`; `specs/Scanning.antt`, `specs/TokenText.antt` |
+//! | its tokens as text | `src/token_text.rt`; `specs/Scanning.antt`, `specs/TokenText.antt` |
 //! | their derivation as text | `src/derivation.rt`, `src/derive_text.rt`; `specs/Deriving.antt`, `specs/DeriveText.antt` |
 //! | its tokens as a stream | `src/source_tokens.rt`; `specs/within/Streams.antt`, `proofs/Drawing.antt`, `proofs/HasRun.antt` |
 //! | line and column of a place | `src/place.rt` |
@@ -22,7 +22,6 @@ mod laws;
 mod naming;
 mod parser;
 mod place;
-mod quote;
 mod refused;
 mod source_tokens;
 mod stage;

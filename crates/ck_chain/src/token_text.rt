@@ -1,4 +1,4 @@
-ghost use Rattle.std.specs.Prelude.{◌≡◌, ◌+◌, ◌^◌, ◌<◌, ◌++◌, length, decimal, All, IfSome, OnOk, Some, slice_get};
+ghost use Rattle.std.specs.Prelude.{◌≡◌, ◌+◌, ◌^◌, ◌<◌, ◌++◌, length, All, IfSome, OnOk, Some, slice_get};
 ghost use Rattle.rex_model.specs.RuleMeaning.{rules_of};
 ghost use Rattle.rex_model.specs.TableMeaning.{tables_of};
 ghost use Rattle.ck_chain.specs.Promise.{answer_in};
@@ -7,10 +7,9 @@ ghost use Rattle.ck_chain.specs.within.Places.{printed_place, printed_token, pri
 ghost use Rattle.ck_chain.specs.within.Scanners.{NameTokens, ScansBy};
 
 use crate::place::Place;
-use crate::quote::push_quoted;
 use crate::refused::Refused;
 use ck_base::{NoMemory, Refusal};
-use itoa::Buffer;
+use quoting::{push_decimal, push_quoted};
 use rex_model::{Scan, ScanRules, ScanTables};
 use scan_driver::next;
 use std::alloc::Global;
@@ -107,14 +106,5 @@ fn push_place(out: &mut Vec<u8>, place: Place) -> Result<(), NoMemory>
     out.push(b':')?;
     push_decimal(out, place.col)?;
     out.push(b' ')?;
-    Ok(())
-}
-
-/// Appends the number in decimal digits.
-fn push_decimal(out: &mut Vec<u8>, n: u32) -> Result<(), NoMemory>
-    ensures { OnOk result (out.new.items ≡ out.old.items ++ decimal n) }
-{
-    let mut digits = Buffer::new();
-    out.extend_from_slice(digits.format(n).as_bytes())?;
     Ok(())
 }

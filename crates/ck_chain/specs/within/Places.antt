@@ -2,7 +2,7 @@
 use Rattle.std.specs.Prelude.{◌≡◌, ℕ, ◌≤◌, List, [], ◌∷◌, ◌++◌, length, codes}
 use Rattle.std.specs.Fmt.{decimal}
 use Rattle.rex_model.specs.Place.{line_at, column_at}
-use Rattle.ck_chain.specs.TokenText.{quoted}
+use Rattle.quoting.specs.Quoted.{quoted}
 use Rattle.ck_chain.specs.declared.place.Place.{Place}
 
 -- the place lies in the text or at its end, and has the line and the column there

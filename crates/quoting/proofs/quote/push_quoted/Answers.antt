@@ -1,7 +1,7 @@
 use Rattle.std.proofs.Common.{◌≡◌, ℕ, ◌≤◌, List, [], ◌∷◌, ◌++◌, length, take, flat_map, append_assoc}
 use Rattle.std.proofs.lemmas.List.{take_all}
-use Rattle.ck_chain.specs.TokenText.{quoted_byte, quoted}
-use Rattle.ck_chain.proofs.quote.push_quoted.Goals as goal
+use Rattle.quoting.specs.Quoted.{quoted_byte, quoted}
+use Rattle.quoting.proofs.quote.push_quoted.Goals as goal
 
 -- the quotes and all bytes between them
 between : (old text : List ℕ) (n : ℕ) → length text ≤ n → ((old ++ 34 ∷ []) ++ flat_map quoted_byte (take n text)) ++ 34 ∷ [] ≡ old ++ quoted text

@@ -1,10 +1,10 @@
 ghost use Rattle.std.specs.Prelude.{◌≡◌, ◌<◌, ◌++◌, OnOk};
-ghost use Rattle.ck_chain.specs.TokenText.{hex_digit, quoted_byte, quoted};
+ghost use Rattle.quoting.specs.Quoted.{hex_digit, quoted_byte, quoted};
 
-use ck_base::NoMemory;
+use value_store::NoMemory;
 
 /// Appends the text in quotes.
-pub(crate) fn push_quoted(out: &mut Vec<u8>, text: &[u8]) -> Result<(), NoMemory>
+pub fn push_quoted(out: &mut Vec<u8>, text: &[u8]) -> Result<(), NoMemory>
     ensures { OnOk result (out.new.items ≡ out.old.items ++ quoted text.now) }
 {
     out.push(b'"')?;

@@ -1,0 +1,2 @@
+-- Words that only the contracts and proofs within this crate cite.
+pub mod Printing
