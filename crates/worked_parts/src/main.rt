@@ -1,4 +1,4 @@
-//! Calls the layers that no command reaches yet, with ample memory, and prints what comes.
+//! Calls the layers below the tool, with ample memory, and prints what comes.
 //!
 //! | question | file |
 //! |---|---|
