@@ -9,7 +9,11 @@
 
 mod fault;
 mod nodes;
+mod parsing;
+mod resolving;
 mod scope;
+mod vocabulary;
+mod written;
 
 pub use fault::ExprFault;
 pub use nodes::NodeSpec;
