@@ -1,2 +1,5 @@
-pub mod Writing
+pub mod AstBuilt
+pub mod AstSeen
+pub mod AstSteps
 pub mod Meant
+pub mod Writing

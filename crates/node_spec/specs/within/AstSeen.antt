@@ -1,0 +1,28 @@
+-- What the lines of the program declare. Only contracts within the crate cite these.
+use Rattle.std.specs.Prelude.{ℕ, List, map}
+use Rattle.spec_text.specs.Declares.{Declared}
+use Rattle.node_spec.specs.AstShapes.{AstSaying, SaidItem, family, target, a_type, node, build}
+use Rattle.node_spec.specs.AstTables.{Row}
+use Rattle.node_spec.specs.declared.ast_line.AstLine.{AstLine}
+use Rattle.node_spec.specs.declared.ast_line.ItemText.{ItemText}
+use Rattle.node_spec.specs.declared.ast_line.Saying.{Saying}
+use Rattle.node_spec.specs.declared.ast_line.Saying.TheVariants as says
+use Rattle.node_spec.specs.declared.rows.TypeRow.{TypeRow}
+use Rattle.node_spec.specs.within.Writing.{spoken_of}
+
+abbrev pub item_seen : ItemText → SaidItem
+item_seen item = record { name = item.name.now; of = item.of.now }
+
+abbrev pub saying_seen : Saying → AstSaying
+saying_seen (says.Family name) = family name.now
+saying_seen (says.Target name) = target name.now
+saying_seen (says.NodeType name base items) = a_type name.now base.now (map item_seen items.now)
+saying_seen (says.Node nonterminal name) = node nonterminal.now name.now
+saying_seen (says.Build label e) = build label.now (spoken_of e)
+
+abbrev pub declared_by : AstLine → Declared AstSaying
+declared_by line = record { number = line.number; said = saying_seen line.says }
+
+-- a type of the program, by names
+abbrev pub row_seen : TypeRow → Row
+row_seen row = record { name = row.name.now; family = row.family.now; base = row.base; items = map item_seen row.items.items }

@@ -1,0 +1,35 @@
+ghost use Rattle.std.specs.Prelude.{◌≡◌, ◌+◌, ◌<◌, ◌^◌, ℕ, length, map, IfOk, MatchOption};
+ghost use Rattle.ck_base.specs.declared.fault.Kind.TheVariants.{Unknown as unknown};
+ghost use Rattle.spec_text.specs.Declares.{Grow};
+ghost use Rattle.spec_text.specs.FirstFault.{Least};
+ghost use Rattle.node_spec.specs.AstTables.{type_names};
+ghost use Rattle.node_spec.specs.within.AstSeen.{declared_by};
+ghost use Rattle.node_spec.specs.within.AstSteps.{AreFamilies, HasIn, IsBefore};
+
+use crate::ast_line::AstLine;
+use crate::families::Families;
+use cfg_model::NamedGrammar;
+use ck_base::{Names, NoMemory};
+use std::alloc::Global;
+
+/// The first line that names what isn't declared. It is the line of the section's head where a
+/// nonterminal has no family, or a rule builds nothing.
+pub(crate) fn first_unknown(
+    alloc: Global,
+    g: &NamedGrammar,
+    head: u32,
+    list: &[AstLine<'_>],
+    families: &Families,
+    types: &Names,
+) -> Result<Option<u32>, NoMemory>
+    requires few { length list.now + 1 < 2 ^ 32 }
+    requires grow { Grow (map declared_by list.now) }
+    requires before { IsBefore head (map declared_by list.now) }
+    requires families { AreFamilies (map declared_by list.now) families.now }
+    requires types { types.now ≡ type_names (map declared_by list.now) }
+    ensures { let ds = map declared_by list.now in IfOk result (λ found. MatchOption found
+        ((line : ℕ) → HasIn g.now head ds unknown line → ⊥)
+        (Least (HasIn g.now head ds unknown))) }
+{
+    Err(NoMemory)
+}
