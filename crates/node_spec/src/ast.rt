@@ -1,16 +1,19 @@
 ghost use Rattle.std.specs.Prelude.{◌≡◌, ◌≤◌, ◌++◌, ℕ, List, length, IfOk, IfErr};
 ghost use Rattle.cfg_model.specs.Cfg.{IsGrammar};
-ghost use Rattle.spec_text.specs.Promise.{AreSectionsOf, HasSection};
+ghost use Rattle.spec_text.specs.Promise.{AreSectionsOf, HasSection, IsSectionOf};
 ghost use Rattle.spec_text.specs.Sections.{SectionLines};
 ghost use Rattle.spec_text.specs.declared.section.Section.TheVariants.{Ast};
 ghost use Rattle.node_spec.specs.AstPromise.{DeclaresNodes, Grew, IsAstFault};
 ghost use Rattle.node_spec.specs.Nodes.{FitGrammar, nodes_of};
 
+use crate::ast_line::ast_lines;
+use crate::ast_names::declared_names;
+use crate::ast_nodes::declared_nodes;
 use crate::nodes::NodeSpec;
 use bumpalo::Bump;
 use cfg_model::NamedGrammar;
 use ck_base::SpecFault;
-use spec_text::Sections;
+use spec_text::{Section, SectionText, Sections, section_of};
 use std::alloc::Global;
 use value_store::Literals;
 
@@ -42,5 +45,20 @@ pub fn read_ast<'a>(
     ensures fault { IfErr result (IsAstFault spec.now g.now) }
     ensures grew { Grew literals.old literals.new }
 {
-    Err(SpecFault::NoMemory)
+    let section = ast_of(s);
+    let texts = Bump::new(alloc);
+    let list = ast_lines(alloc, &texts, spec, section.lines)?;
+    let list = list.as_slice();
+    let names = declared_names(alloc, g, section.head, list)?;
+    let nodes = declared_nodes(alloc, arena, g, section.head, list, &names, literals)?;
+    Ok(nodes)
+}
+
+/// The section AST, which is there.
+fn ast_of(s: &Sections) -> SectionText<'_>
+    requires { (file : List ℕ) × (lines : SectionLines) × AreSectionsOf file s.now
+        × HasSection file Ast lines }
+    ensures { (file : List ℕ) → AreSectionsOf file s.now → IsSectionOf file Ast result }
+{
+    section_of(s, Section::Ast).unwrap()
 }

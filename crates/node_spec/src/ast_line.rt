@@ -1,17 +1,18 @@
 ghost use Rattle.std.specs.Prelude.{◌≡◌, List, length, map, IfOk, IfErr};
 ghost use Rattle.cfg_model.specs.declared.named.NamedGrammar.{NamedGrammar as named_grammar};
-ghost use Rattle.spec_text.specs.Declares.{DeclareAll, LinesGrow};
+ghost use Rattle.spec_text.specs.Declares.{DeclareAll, IsFaultOfLine, LinesGrow, Says};
 ghost use Rattle.spec_text.specs.Lines.{Line};
 ghost use Rattle.spec_text.specs.Sections.{SectionLines};
-ghost use Rattle.spec_text.specs.Spans.{AreLinesOf};
+ghost use Rattle.spec_text.specs.Spans.{AreLinesOf, IsLineOf};
 ghost use Rattle.node_spec.specs.AstFaults.{ast};
 ghost use Rattle.node_spec.specs.within.AstSeen.{declared_by};
 ghost use Rattle.node_spec.specs.within.AstSteps.{IsFirstOf};
 
+use crate::line_shapes::saying_of;
 use crate::written::Written;
 use bumpalo::Bump;
-use ck_base::SpecFault;
-use spec_text::SpecLine;
+use ck_base::{Kind, SpecFault};
+use spec_text::{SpecLine, tokens_in};
 use std::alloc::Global;
 
 /// An item of a type, as it is written: its name, and its type's.
@@ -58,5 +59,36 @@ pub(crate) fn ast_lines<'s>(
         → AreLinesOf spec.now lines.now these.inside → LinesGrow these.inside
         → IsFirstOf g these fault) }
 {
-    Err(SpecFault::NoMemory)
+    let mut list = Vec::new(alloc);
+    for line in lines {
+        list.push(line_in(alloc, texts, spec, line)?)?;
+    }
+    Ok(list)
+}
+
+/// What the line declares.
+fn line_in<'s>(
+    alloc: Global,
+    texts: &'s Bump<Global>,
+    spec: &'s [u8],
+    line: &SpecLine,
+) -> Result<AstLine<'s>, SpecFault>
+    requires { (is : Line) × IsLineOf spec.now line.now is }
+    ensures says { IfOk result (λ said. (g : named_grammar) (is : Line)
+        → IsLineOf spec.now line.now is → Says (ast g) is (declared_by said)) }
+    ensures fault { IfErr result (λ fault. (g : named_grammar) (is : Line)
+        → IsLineOf spec.now line.now is → IsFaultOfLine (ast g) is fault) }
+{
+    let number = line.number;
+    if let Some(kind) = line.bad {
+        return Err(SpecFault::Bad { line: number, kind });
+    }
+    let tokens = tokens_in(alloc, texts, spec, line)?;
+    let Some(says) = saying_of(texts, tokens.as_slice())? else {
+        return Err(SpecFault::Bad {
+            line: number,
+            kind: Kind::Syntax,
+        });
+    };
+    Ok(AstLine { number, says })
 }

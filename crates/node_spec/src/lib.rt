@@ -9,14 +9,20 @@
 
 mod ast;
 mod ast_line;
+mod ast_names;
+mod ast_nodes;
 mod builds;
 mod families;
 mod fault;
+mod limits;
+mod line_items;
+mod line_shapes;
 mod nodes;
 mod parsing;
 mod resolving;
 mod rows;
 mod scope;
+mod sides;
 mod table;
 mod twice;
 mod undeclared;

@@ -3,7 +3,7 @@ ghost use Rattle.ck_base.specs.Numbered.{AreApart};
 ghost use Rattle.ck_base.specs.declared.fault.Kind.TheVariants.{Twice as twice};
 ghost use Rattle.spec_text.specs.Declares.{Grow, HasFault};
 ghost use Rattle.spec_text.specs.FirstFault.{Least};
-ghost use Rattle.node_spec.specs.AstFaults.{ast, names_in};
+ghost use Rattle.node_spec.specs.AstFaults.{ast, labels_in, names_in};
 ghost use Rattle.node_spec.specs.AstTables.{rows_in};
 ghost use Rattle.node_spec.specs.within.AstSeen.{declared_by, row_seen};
 ghost use Rattle.node_spec.specs.within.AstSteps.{HasNone};
@@ -29,6 +29,8 @@ pub(crate) fn first_twice(
         (HasNone g.now ds twice) (Least (HasFault (ast g.now) ds twice))) }
     ensures apart { let ds = map declared_by list.now in IfOk result (λ found. MatchOption found
         (AreApart (names_in ds)) (λ line. line ≡ line)) }
+    ensures labels { let ds = map declared_by list.now in IfOk result (λ found. MatchOption found
+        (AreApart (labels_in ds)) (λ line. line ≡ line)) }
 {
     Err(NoMemory)
 }

@@ -1,0 +1,46 @@
+-- Each turn looks at one line.
+use Rattle.std.proofs.Common.{refl, ap, map, ◌∙◌, ◌∷◌, [], rules, arith}
+use Rattle.std.proofs.lemmas.List.{map-append}
+use Rattle.spec_text.specs.Declares.{no_lines}
+use Rattle.spec_text.proofs.Frame.{declare_more}
+use Rattle.spec_text.proofs.Lists.{get_at, take_all}
+use Rattle.spec_text.proofs.PassedOn.{passed_on}
+use Rattle.spec_text.proofs.Views.{line_at, as_many}
+use Rattle.node_spec.specs.AstFaults.{ast}
+use Rattle.node_spec.specs.within.AstSeen.{declared_by}
+use Rattle.node_spec.proofs.AstLines.{first_without_shape}
+use Rattle.node_spec.proofs.ast_line.ast_lines.Goals as goal
+
+pub loop-line-init : goal.loop-line-init
+loop-line-init c = rw c.new-list.ensures.items (λ g are is. no_lines, refl)
+
+pub line_in-requires : goal.line_in-requires
+line_in-requires c =
+    let here = line_at _ _ c.requires.0 c.loop-line.line-index _ c.requires.1
+    (rw c.line-item.is (get_at c.args.lines.now c.loop-line.line-index _ c.loop-line-test.true)) in
+    (here.there, here.is)
+
+pub returns-in_err-line_in-clause-fault : goal.returns-in_err-line_in-clause-fault
+returns-in_err-line_in-clause-fault c = passed_on _ _ _ c.from_residual.ensures.1 (λ g these is grow.
+    let here = line_at _ _ these.inside c.loop-line.line-index _ is
+    (rw c.line-item.is (get_at c.args.lines.now c.loop-line.line-index _ c.loop-line-test.true)) in
+    first_without_shape g these c.loop-line.line-index here.there _ _ grow here.at
+    (c.loop-line.invariant.0 g these.inside is)
+    (c.in_err-line_in.ensures.fault g here.there here.is))
+
+pub loop-line-preserved : goal.loop-line-preserved
+loop-line-preserved c = (
+  λ g are is.
+      let here = line_at _ _ are c.loop-line.line-index _ is
+      (rw c.line-item.is (get_at c.args.lines.now c.loop-line.line-index _ c.loop-line-test.true)) in
+      declare_more (ast g) are c.loop-line.line-index here.there _ _ (declared_by c.in_ok-line_in.field-0)
+      here.at (c.loop-line.invariant.0 g are is) (c.in_ok-line_in.ensures.says g here.there here.is)
+      (ap (λ l. map declared_by l) c.in_ok-push.ensures.items
+      ∙ map-append declared_by c.loop-line.list.items (c.in_ok-line_in.field-0 ∷ [])),
+  (search rules),
+)
+
+pub returns-clause-declared : goal.returns-clause-declared
+returns-clause-declared c = λ g are is.
+    let end = omega (arith, c.loop-line-test.false, c.loop-line.auto.line-index-end) ∙ as_many _ _ are is in
+    rw (take_all are c.loop-line.line-index end) at (c.loop-line.invariant.0 g are is)
