@@ -1,5 +1,5 @@
 -- What the lines of AST declare together: over lines one behind the other, over one line more, and by which line.
-use Rattle.std.proofs.Common.{◌≡◌, ℕ, zero, suc, ◌+◌, ◌⊎◌, inl, inr, List, [], ◌∷◌, ◌++◌, map, take, length, refl, sym, ap, ◌∙◌, Option, Some, None, Contains, arith, append_assoc}
+use Rattle.std.proofs.Common.{◌≡◌, ℕ, zero, suc, ◌+◌, ◌⊎◌, inl, inr, List, [], ◌∷◌, ◌++◌, map, take, refl, sym, ap, ◌∙◌, Option, Some, None, Contains, arith, append_assoc}
 use Rattle.std.specs.List.{slice_get}
 use Rattle.std.proofs.lemmas.List.{map-append, append-nil}
 use Rattle.ck_base.specs.Numbered.{AreApart, number_of}
@@ -12,7 +12,8 @@ use Rattle.node_spec.specs.AstTables.{Row, family_then, families_in, family_name
 use Rattle.node_spec.specs.AstFaults.{name_then, names_in, DeclaresName, of_family, of_target, of_type, node_then, nodes_in, label_then, labels_in}
 
 -- one behind the other
-name_then-append : (said : AstSaying) (more others : List (List ℕ)) → name_then said (more ++ others) ≡ name_then said more ++ others
+name_then-append : (said : AstSaying) (more others : List (List ℕ))
+    → name_then said (more ++ others) ≡ name_then said more ++ others
 name_then-append (family name) more others = refl
 name_then-append (target name) more others = refl
 name_then-append (a_type name base items) more others = refl
@@ -24,7 +25,8 @@ names_in-append [] es = refl
 names_in-append (d ∷ ds) es =
     ap (λ l. name_then d.said l) (names_in-append ds es) ∙ name_then-append d.said (names_in ds) (names_in es)
 
-node_then-append : (said : AstSaying) (more others : List (List ℕ)) → node_then said (more ++ others) ≡ node_then said more ++ others
+node_then-append : (said : AstSaying) (more others : List (List ℕ))
+    → node_then said (more ++ others) ≡ node_then said more ++ others
 node_then-append (family name) more others = refl
 node_then-append (target name) more others = refl
 node_then-append (a_type name base items) more others = refl
@@ -36,7 +38,8 @@ nodes_in-append [] es = refl
 nodes_in-append (d ∷ ds) es =
     ap (λ l. node_then d.said l) (nodes_in-append ds es) ∙ node_then-append d.said (nodes_in ds) (nodes_in es)
 
-label_then-append : (said : AstSaying) (more others : List (List ℕ)) → label_then said (more ++ others) ≡ label_then said more ++ others
+label_then-append : (said : AstSaying) (more others : List (List ℕ))
+    → label_then said (more ++ others) ≡ label_then said more ++ others
 label_then-append (family name) more others = refl
 label_then-append (target name) more others = refl
 label_then-append (a_type name base items) more others = refl
@@ -48,7 +51,8 @@ labels_in-append [] es = refl
 labels_in-append (d ∷ ds) es =
     ap (λ l. label_then d.said l) (labels_in-append ds es) ∙ label_then-append d.said (labels_in ds) (labels_in es)
 
-family_then-append : (said : AstSaying) (more others : List Family) → family_then said (more ++ others) ≡ family_then said more ++ others
+family_then-append : (said : AstSaying) (more others : List Family)
+    → family_then said (more ++ others) ≡ family_then said more ++ others
 family_then-append (family name) more others = refl
 family_then-append (target name) more others = refl
 family_then-append (a_type name base items) more others = refl
@@ -58,11 +62,14 @@ family_then-append (build label e) more others = refl
 pub families_in-append : (ds es : List (Declared AstSaying)) → families_in (ds ++ es) ≡ families_in ds ++ families_in es
 families_in-append [] es = refl
 families_in-append (d ∷ ds) es =
-    ap (λ l. family_then d.said l) (families_in-append ds es) ∙ family_then-append d.said (families_in ds) (families_in es)
+    ap (λ l. family_then d.said l) (families_in-append ds es)
+    ∙ family_then-append d.said (families_in ds) (families_in es)
 
-pub family_names-append : (ds es : List (Declared AstSaying)) → family_names (ds ++ es) ≡ family_names ds ++ family_names es
+pub family_names-append : (ds es : List (Declared AstSaying))
+    → family_names (ds ++ es) ≡ family_names ds ++ family_names es
 family_names-append ds es =
-    ap (λ l. map (λ f. f.name) l) (families_in-append ds es) ∙ map-append (λ f. f.name) (families_in ds) (families_in es)
+    ap (λ l. map (λ f. f.name) l) (families_in-append ds es) ∙ map-append (λ f. f.name) (families_in ds)
+    (families_in es)
 
 pub rows_from-append : (rows : List Row) (ds es : List (Declared AstSaying))
     → rows_from rows (ds ++ es) ≡ rows_from (rows_from rows ds) es
@@ -86,7 +93,8 @@ module _ (ds : List (Declared AstSaying)) (i : ℕ) (d : Declared AstSaying) (at
   pub families_in-step : families_in (take (i + 1) ds) ≡ families_in (take i ds) ++ family_then d.said []
   families_in-step = ap families_in (take_step ds i d at) ∙ families_in-append (take i ds) (d ∷ [])
 
-  pub family_names-step : family_names (take (i + 1) ds) ≡ family_names (take i ds) ++ map (λ f. f.name) (family_then d.said [])
+  pub family_names-step : family_names (take (i + 1) ds) ≡ family_names (take i ds) ++ map (λ f. f.name)
+      (family_then d.said [])
   family_names-step = ap family_names (take_step ds i d at) ∙ family_names-append (take i ds) (d ∷ [])
 
   pub rows_in-step : rows_in (take (i + 1) ds) ≡ row_after (rows_in (take i ds)) d.said
@@ -116,7 +124,8 @@ row_names-after (target name) rows more = refl
 row_names-after (a_type name base items) rows more =
     let row = row_of rows name base items in
     ap (λ l. l ++ more) (map-append (λ r. r.name) rows (row ∷ []))
-    ∙ ap (λ w. (row_names rows ++ w ∷ []) ++ more) (row_over-name rows name base items (number_of (row_names rows) base))
+    ∙ ap (λ w. (row_names rows ++ w ∷ []) ++ more)
+    (row_over-name rows name base items (number_of (row_names rows) base))
     ∙ append_assoc (row_names rows) (name ∷ []) more
 row_names-after (node nonterminal name) rows more = refl
 row_names-after (build label e) rows more = refl
@@ -136,7 +145,8 @@ in_front names name = contained_at (name ∷ names) name 0 refl
 pub behind : (names : List (List ℕ)) (first name : List ℕ) → Contains names name → Contains (first ∷ names) name
 behind names first name has = let at = place_of names name has in contained_at (first ∷ names) name (suc at.0) at.1
 
-pub front_or_behind : (names : List (List ℕ)) (first name : List ℕ) → Contains (first ∷ names) name → (first ≡ name) ⊎ Contains names name
+pub front_or_behind : (names : List (List ℕ)) (first name : List ℕ) → Contains (first ∷ names) name
+    → (first ≡ name) ⊎ Contains names name
 front_or_behind names first name has = let at = place_of (first ∷ names) name has in by at.0 at.1
   where
     by : (n : ℕ) → slice_get (first ∷ names) n ≡ Some name → (first ≡ name) ⊎ Contains names name
@@ -145,20 +155,25 @@ front_or_behind names first name has = let at = place_of (first ∷ names) name 
 
 -- none is there twice
 pub apart_behind : (names : List (List ℕ)) (first : List ℕ) → AreApart (first ∷ names) → AreApart names
-apart_behind names first apart = λ i j name at also. let same = apart (suc i) (suc j) name at also in omega (arith, same)
+apart_behind names first apart = λ i j name at also. let same =
+    apart (suc i) (suc j) name at also in omega (arith, same)
 
 pub not_behind : (names : List (List ℕ)) (first : List ℕ) → AreApart (first ∷ names) → Contains names first → ⊥
 not_behind names first apart has =
     let at = place_of names first has in
     let same = apart 0 (suc at.0) first refl at.1 in omega (arith, same)
 
-pub apart_front : (names : List (List ℕ)) (first : List ℕ) → (Contains names first → ⊥) → AreApart names → AreApart (first ∷ names)
+pub apart_front : (names : List (List ℕ)) (first : List ℕ) → (Contains names first → ⊥) → AreApart names
+    → AreApart (first ∷ names)
 apart_front names first fresh apart = by
   where
-    by : (i j : ℕ) (name : List ℕ) → slice_get (first ∷ names) i ≡ Some name → slice_get (first ∷ names) j ≡ Some name → i ≡ j
+    by : (i j : ℕ) (name : List ℕ) → slice_get (first ∷ names) i ≡ Some name → slice_get (first ∷ names) j ≡ Some name
+        → i ≡ j
     by zero zero name at also = refl
-    by zero (suc j) name at also = let it : name ≡ first = cc in absurd (fresh (contained_at names first j (rw it at also)))
-    by (suc i) zero name at also = let it : name ≡ first = cc in absurd (fresh (contained_at names first i (rw it at at)))
+    by zero (suc j) name at also = let it : name ≡ first = cc in absurd
+        (fresh (contained_at names first j (rw it at also)))
+    by (suc i) zero name at also = let it : name ≡ first = cc in absurd
+        (fresh (contained_at names first i (rw it at at)))
     by (suc i) (suc j) name at also = let same = apart i j name at also in omega (arith, same)
 
 -- which line declares a name
@@ -190,7 +205,8 @@ name_then_cases (build label e) more name has = inr has
 
 pub name_declared : (ds : List (Declared AstSaying)) (name : List ℕ) → Contains (names_in ds) name → IsDeclared ds name
 name_declared [] name has = let at = place_of [] name has in cc
-name_declared (d ∷ ds) name has = by (λ later. name_declared ds name later) (name_then_cases d.said (names_in ds) name has)
+name_declared (d ∷ ds) name has = by (λ later. name_declared ds name later)
+    (name_then_cases d.said (names_in ds) name has)
   where
     by : (Contains (names_in ds) name → IsDeclared ds name) → DeclaresName d.said name ⊎ Contains (names_in ds) name
         → IsDeclared (d ∷ ds) name
@@ -199,24 +215,28 @@ name_declared (d ∷ ds) name has = by (λ later. name_declared ds name later) (
         let more = onward later in
         record { place = suc more.place; declared = more.declared; at = more.at; declares = more.declares }
 
-name_then_has : (said : AstSaying) (more : List (List ℕ)) (name : List ℕ) → DeclaresName said name → Contains (name_then said more) name
+name_then_has : (said : AstSaying) (more : List (List ℕ)) (name : List ℕ) → DeclaresName said name
+    → Contains (name_then said more) name
 name_then_has _ more _ (of_family name) = in_front more name
 name_then_has _ more _ (of_target name) = in_front more name
 name_then_has _ more _ (of_type name base items) = in_front more name
 
-name_then_more : (said : AstSaying) (more : List (List ℕ)) (name : List ℕ) → Contains more name → Contains (name_then said more) name
+name_then_more : (said : AstSaying) (more : List (List ℕ)) (name : List ℕ) → Contains more name
+    → Contains (name_then said more) name
 name_then_more (family first) more name has = behind more first name has
 name_then_more (target first) more name has = behind more first name has
 name_then_more (a_type first base items) more name has = behind more first name has
 name_then_more (node nonterminal first) more name has = has
 name_then_more (build label e) more name has = has
 
-pub name_there : (ds : List (Declared AstSaying)) (i : ℕ) (d : Declared AstSaying) (name : List ℕ) → slice_get ds i ≡ Some d
+pub name_there : (ds : List (Declared AstSaying)) (i : ℕ) (d : Declared AstSaying) (name : List ℕ)
+    → slice_get ds i ≡ Some d
     → DeclaresName d.said name → Contains (names_in ds) name
 name_there [] i d name at declares = cc
 name_there (e ∷ ds) zero d name at declares =
     let it : e ≡ d = cc in rw it (name_then_has d.said (names_in ds) name declares)
-name_there (e ∷ ds) (suc i) d name at declares = name_then_more e.said (names_in ds) name (name_there ds i d name at declares)
+name_there (e ∷ ds) (suc i) d name at declares = name_then_more e.said (names_in ds) name
+    (name_there ds i d name at declares)
 
 -- families and types are among the names, so that they are apart where all names are
 family_named_by : (said : AstSaying) (more : List Family) (all : List (List ℕ)) (name : List ℕ)
@@ -236,9 +256,11 @@ family_named_by (a_type first base items) more all name among has = behind all f
 family_named_by (node nonterminal first) more all name among has = among has
 family_named_by (build label e) more all name among has = among has
 
-pub family_is_name : (ds : List (Declared AstSaying)) (name : List ℕ) → Contains (family_names ds) name → Contains (names_in ds) name
+pub family_is_name : (ds : List (Declared AstSaying)) (name : List ℕ) → Contains (family_names ds) name
+    → Contains (names_in ds) name
 family_is_name [] name has = has
-family_is_name (d ∷ ds) name has = family_named_by d.said (families_in ds) (names_in ds) name (family_is_name ds name) has
+family_is_name (d ∷ ds) name has = family_named_by d.said (families_in ds) (names_in ds) name (family_is_name ds name)
+    has
 
 type_named_by : (said : AstSaying) (more all : List (List ℕ)) (name : List ℕ) → (Contains more name → Contains all name)
     → Contains (type_then said more) name → Contains (name_then said all) name
@@ -252,19 +274,24 @@ type_named_by (a_type first base items) more all name among has = by (front_or_b
 type_named_by (node nonterminal first) more all name among has = among has
 type_named_by (build label e) more all name among has = among has
 
-said_is_name : (ds : List (Declared AstSaying)) (name : List ℕ) → Contains (types_said ds) name → Contains (names_in ds) name
+said_is_name : (ds : List (Declared AstSaying)) (name : List ℕ) → Contains (types_said ds) name
+    → Contains (names_in ds) name
 said_is_name [] name has = has
 said_is_name (d ∷ ds) name has = type_named_by d.said (types_said ds) (names_in ds) name (said_is_name ds name) has
 
-pub type_is_name : (ds : List (Declared AstSaying)) (name : List ℕ) → Contains (type_names ds) name → Contains (names_in ds) name
+pub type_is_name : (ds : List (Declared AstSaying)) (name : List ℕ) → Contains (type_names ds) name
+    → Contains (names_in ds) name
 type_is_name ds name has = said_is_name ds name (rw (type_names-said ds) at has)
 
-families_apart_by : (said : AstSaying) (ds : List (Declared AstSaying)) → (AreApart (names_in ds) → AreApart (family_names ds))
+families_apart_by : (said : AstSaying) (ds : List (Declared AstSaying))
+    → (AreApart (names_in ds) → AreApart (family_names ds))
     → AreApart (name_then said (names_in ds)) → AreApart (map (λ f. f.name) (family_then said (families_in ds)))
 families_apart_by (family name) ds more apart =
-    apart_front (family_names ds) name (λ has. not_behind (names_in ds) name apart (family_is_name ds name has)) (more (apart_behind (names_in ds) name apart))
+    apart_front (family_names ds) name (λ has. not_behind (names_in ds) name apart (family_is_name ds name has))
+    (more (apart_behind (names_in ds) name apart))
 families_apart_by (target name) ds more apart =
-    apart_front (family_names ds) name (λ has. not_behind (names_in ds) name apart (family_is_name ds name has)) (more (apart_behind (names_in ds) name apart))
+    apart_front (family_names ds) name (λ has. not_behind (names_in ds) name apart (family_is_name ds name has))
+    (more (apart_behind (names_in ds) name apart))
 families_apart_by (a_type name base items) ds more apart = more (apart_behind (names_in ds) name apart)
 families_apart_by (node nonterminal name) ds more apart = more apart
 families_apart_by (build label e) ds more apart = more apart
@@ -273,12 +300,14 @@ pub families_apart : (ds : List (Declared AstSaying)) → AreApart (names_in ds)
 families_apart [] apart = apart
 families_apart (d ∷ ds) apart = families_apart_by d.said ds (families_apart ds) apart
 
-types_apart_by : (said : AstSaying) (ds : List (Declared AstSaying)) → (AreApart (names_in ds) → AreApart (types_said ds))
+types_apart_by : (said : AstSaying) (ds : List (Declared AstSaying))
+    → (AreApart (names_in ds) → AreApart (types_said ds))
     → AreApart (name_then said (names_in ds)) → AreApart (type_then said (types_said ds))
 types_apart_by (family name) ds more apart = more (apart_behind (names_in ds) name apart)
 types_apart_by (target name) ds more apart = more (apart_behind (names_in ds) name apart)
 types_apart_by (a_type name base items) ds more apart =
-    apart_front (types_said ds) name (λ has. not_behind (names_in ds) name apart (said_is_name ds name has)) (more (apart_behind (names_in ds) name apart))
+    apart_front (types_said ds) name (λ has. not_behind (names_in ds) name apart (said_is_name ds name has))
+    (more (apart_behind (names_in ds) name apart))
 types_apart_by (node nonterminal name) ds more apart = more apart
 types_apart_by (build label e) ds more apart = more apart
 

@@ -1,7 +1,7 @@
 -- The types that the lines of AST declare: each is that of its line, over those of the lines before it.
-use Rattle.std.proofs.Common.{◌≡◌, ℕ, zero, suc, ◌+◌, ◌<◌, ◌≤◌, ◌⊎◌, inl, inr, List, [], ◌∷◌, ◌++◌, map, take, drop, length, refl, sym, ap, ◌∙◌, subst, Option, Some, None, All, Contains, arith, append_assoc}
+use Rattle.std.proofs.Common.{◌≡◌, ℕ, zero, suc, ◌+◌, ◌<◌, ◌≤◌, ◌⊎◌, inl, inr, List, [], ◌∷◌, ◌++◌, map, take, drop, length, refl, sym, ap, ◌∙◌, subst, Option, Some, None, All, arith, append_assoc}
 use Rattle.std.specs.List.{slice_get}
-use Rattle.std.proofs.lemmas.List.{append-nil, length-map, take-append-drop}
+use Rattle.std.proofs.lemmas.List.{append-nil, take-append-drop}
 use Rattle.std.proofs.lemmas.List.Elements.{All-append, All-cons, All-nil}
 use Rattle.std.proofs.lemmas.Option.{none-some, slice_get_within}
 use Rattle.ck_base.specs.Numbered.{number_of}
@@ -19,7 +19,8 @@ there [] i less = absurd (omega (arith, less))
 there (x ∷ xs) zero less = (x, refl)
 there (x ∷ xs) (suc i) less = there xs i (omega (arith, less))
 
-pub get_front : {X : Type 0} (xs ys : List X) (i : ℕ) (x : X) → slice_get xs i ≡ Some x → slice_get (xs ++ ys) i ≡ Some x
+pub get_front : {X : Type 0} (xs ys : List X) (i : ℕ) (x : X) → slice_get xs i ≡ Some x
+    → slice_get (xs ++ ys) i ≡ Some x
 get_front [] ys i x at = absurd (none-some x at)
 get_front (y ∷ xs) ys zero x at = at
 get_front (y ∷ xs) ys (suc i) x at = get_front xs ys i x at
@@ -50,7 +51,8 @@ after_longer (a_type name base items) rows = (row_of rows name base items ∷ []
 after_longer (node nonterminal name) rows = ([], sym (append-nil rows))
 after_longer (build label e) rows = ([], sym (append-nil rows))
 
-pub rows_longer : (rows : List Row) (ds : List (Declared AstSaying)) → (more : List Row) × (rows_from rows ds ≡ rows ++ more)
+pub rows_longer : (rows : List Row) (ds : List (Declared AstSaying))
+    → (more : List Row) × (rows_from rows ds ≡ rows ++ more)
 rows_longer rows [] = ([], sym (append-nil rows))
 rows_longer rows (d ∷ ds) =
     let first = after_longer d.said rows in
@@ -112,7 +114,8 @@ module _ (ds : List (Declared AstSaying)) where
   line_after i d (a_type name base own) at is before k row got =
       by (front_or_last (rows_in (take i ds)) (row_at ds i name base own) k row got)
     where
-      by : (slice_get (rows_in (take i ds)) k ≡ Some row) ⊎ ((k ≡ length (rows_in (take i ds))) × (row_at ds i name base own ≡ row))
+      by : (slice_get (rows_in (take i ds)) k ≡ Some row)
+          ⊎ ((k ≡ length (rows_in (take i ds))) × (row_at ds i name base own ≡ row))
           → IsRowOfLine ds k row
       by (inl earlier) = before k row earlier
       by (inr last) = record {
@@ -129,7 +132,8 @@ module _ (ds : List (Declared AstSaying)) where
   line_after i d (node nonterminal name) at is before k row got = before k row got
   line_after i d (build label e) at is before k row got = before k row got
 
-  lines_to : (i : ℕ) → i ≤ length ds → (k : ℕ) (row : Row) → slice_get (rows_in (take i ds)) k ≡ Some row → IsRowOfLine ds k row
+  lines_to : (i : ℕ) → i ≤ length ds → (k : ℕ) (row : Row) → slice_get (rows_in (take i ds)) k ≡ Some row
+      → IsRowOfLine ds k row
   lines_to zero within k row got = absurd (none-some row got)
   lines_to (suc i) within k row got =
       let d = there ds i (omega (arith, within)) in
@@ -160,21 +164,25 @@ row_over-base rows name base own (Some b) = refl
 -- what a type takes from its base
 pub over_base : (rows : List Row) (name base : List ℕ) (own : List SaidItem) (number : Option ℕ) (b : ℕ) (from : Row)
     → number ≡ Some b → slice_get rows b ≡ Some from
-    → ((row_over rows name base own number).family ≡ from.family) × ((row_over rows name base own number).items ≡ from.items ++ own)
+    → ((row_over rows name base own number).family ≡ from.family)
+    × ((row_over rows name base own number).items ≡ from.items ++ own)
 over_base rows name base own number b from is at =
-    subst (λ n. ((row_over rows name base own n).family ≡ from.family) × ((row_over rows name base own n).items ≡ from.items ++ own))
+    subst (λ n. ((row_over rows name base own n).family ≡ from.family)
+    × ((row_over rows name base own n).items ≡ from.items ++ own))
     (sym is) (ap (λ r. (row_in r).family) at, ap (λ r. (row_in r).items ++ own) at)
 
 pub without_base : (rows : List Row) (name base : List ℕ) (own : List SaidItem) (number : Option ℕ) → number ≡ None
     → ((row_over rows name base own number).family ≡ base) × ((row_over rows name base own number).items ≡ own)
 without_base rows name base own number is =
-    subst (λ n. ((row_over rows name base own n).family ≡ base) × ((row_over rows name base own n).items ≡ own)) (sym is) (refl, refl)
+    subst (λ n. ((row_over rows name base own n).family ≡ base) × ((row_over rows name base own n).items ≡ own))
+    (sym is) (refl, refl)
 
 pub base_there : (rows : List Row) (base : List ℕ) (b : ℕ) → number_of (row_names rows) base ≡ Some b
     → (from : Row) × (slice_get rows b ≡ Some from) × (from.name ≡ base)
 base_there rows base b is = got_of_map (λ row. row.name) rows b base (name_at_number (row_names rows) base b is)
 
-pub extends_one : (ds : List (Declared AstSaying)) (k b : ℕ) (row : Row) → slice_get (rows_in ds) k ≡ Some row → row.base ≡ Some b
+pub extends_one : (ds : List (Declared AstSaying)) (k b : ℕ) (row : Row) → slice_get (rows_in ds) k ≡ Some row
+    → row.base ≡ Some b
     → ExtendsOne ds k b row
 extends_one ds k b row got is =
     let line = line_of_row ds k row got in

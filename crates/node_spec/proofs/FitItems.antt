@@ -1,5 +1,5 @@
 -- The items of the types that AST declares without a fault: of known families, of one side, and none a map.
-use Rattle.std.proofs.Common.{◌≡◌, ℕ, zero, suc, ◌+◌, ◌<◌, ◌≤◌, ◌⊎◌, inl, inr, Bool, true, false, true≢false, List, [], ◌∷◌, ◌++◌, map, take, drop, length, refl, sym, ap, ◌∙◌, subst, Option, Some, None, All, Contains, cond, if◌then◌else◌, codes, arith}
+use Rattle.std.proofs.Common.{◌≡◌, ℕ, zero, suc, ◌+◌, ◌<◌, ◌⊎◌, inl, inr, Bool, true, false, true≢false, List, [], ◌∷◌, ◌++◌, map, take, drop, length, refl, sym, ap, ◌∙◌, subst, Option, Some, None, All, Contains, cond, if◌then◌else◌, codes}
 use Rattle.std.specs.List.{slice_get, position_from}
 use Rattle.std.specs.Option.{unwrap_or}
 use Rattle.std.specs.Str.{bytes_eq}
@@ -22,7 +22,7 @@ use Rattle.ck_base.proofs.NamesMet.{name_at_number}
 use Rattle.spec_text.specs.Declares.{Declared}
 use Rattle.spec_text.proofs.Lists.{all_at}
 use Rattle.node_spec.specs.AstShapes.{AstSaying, SaidItem, a_type}
-use Rattle.node_spec.specs.AstTables.{Row, families_in, family_names, family_number, item_type, item_of, row_over, row_names, rows_in}
+use Rattle.node_spec.specs.AstTables.{families_in, family_names, family_number, item_type, item_of, row_names, rows_in}
 use Rattle.node_spec.specs.AstFaults.{AstFault, item_words, is_target, row_at, no_base, no_item_type, map_item, item_of_other_side}
 use Rattle.node_spec.proofs.AstLists.{family_names-append, front_or_behind}
 use Rattle.node_spec.proofs.AstRows.{each_row, over_base, without_base, base_there}
@@ -58,7 +58,8 @@ known names name there = by (number_of names name) refl
     by None is = absurd (there (absent_without names name is))
     by (Some n) is = contained_at names name n (name_at_number names name n is)
 
-pub number_below : (names : List (List ℕ)) (name : List ℕ) → Contains names name → family_number names name < length names
+pub number_below : (names : List (List ℕ)) (name : List ℕ) → Contains names name
+    → family_number names name < length names
 number_below names name has = by (number_of names name) refl
   where
     by : (number : Option ℕ) → number_of names name ≡ number → unwrap_or number 0 < length names
@@ -98,7 +99,8 @@ token_by false false false true n is = cc
 token_by false false false false n is = cc
 
 item_type-by : (names : List (List ℕ)) (w : List ℕ) → item_type names w
-    ≡ item_by (bytes_eq w (codes "int")) (bytes_eq w (codes "bool")) (bytes_eq w (codes "text")) (bytes_eq w (codes "map")) (family_number names w)
+    ≡ item_by (bytes_eq w (codes "int")) (bytes_eq w (codes "bool")) (bytes_eq w (codes "text"))
+    (bytes_eq w (codes "map")) (family_number names w)
 item_type-by names w = refl
 
 different : (w other : List ℕ) → bytes_eq w other ≡ false → other ≡ w → ⊥
@@ -109,15 +111,18 @@ pub node_type : (names : List (List ℕ)) (w : List ℕ) (f : ℕ) → item_type
     → (Contains item_words w → ⊥) × (f ≡ family_number names w)
 node_type names w f is = (none, parts.4)
   where
-    parts : (bytes_eq w (codes "int") ≡ false) × (bytes_eq w (codes "bool") ≡ false) × (bytes_eq w (codes "text") ≡ false)
+    parts : (bytes_eq w (codes "int") ≡ false) × (bytes_eq w (codes "bool") ≡ false)
+        × (bytes_eq w (codes "text") ≡ false)
         × (bytes_eq w (codes "map") ≡ false) × (f ≡ family_number names w)
-    parts = node_by (bytes_eq w (codes "int")) (bytes_eq w (codes "bool")) (bytes_eq w (codes "text")) (bytes_eq w (codes "map"))
+    parts = node_by (bytes_eq w (codes "int")) (bytes_eq w (codes "bool")) (bytes_eq w (codes "text"))
+        (bytes_eq w (codes "map"))
         (family_number names w) f (sym (item_type-by names w) ∙ is)
 
     no_more : Contains [] w → ⊥
     no_more has = let at = place_of [] w has in none-some w at.1
 
-    or_more : (first : List ℕ) (words : List (List ℕ)) → bytes_eq w first ≡ false → (Contains words w → ⊥) → Contains (first ∷ words) w → ⊥
+    or_more : (first : List ℕ) (words : List (List ℕ)) → bytes_eq w first ≡ false → (Contains words w → ⊥)
+        → Contains (first ∷ words) w → ⊥
     or_more first words not later has = by (front_or_behind words first w has)
       where
         by : (first ≡ w) ⊎ Contains words w → ⊥
@@ -131,16 +136,19 @@ node_type names w f is = (none, parts.4)
 
 pub map_type : (names : List (List ℕ)) (w : List ℕ) → item_type names w ≡ ty.Map → w ≡ codes "map"
 map_type names w is =
-    let test = map_by (bytes_eq w (codes "int")) (bytes_eq w (codes "bool")) (bytes_eq w (codes "text")) (bytes_eq w (codes "map"))
+    let test = map_by (bytes_eq w (codes "int")) (bytes_eq w (codes "bool")) (bytes_eq w (codes "text"))
+    (bytes_eq w (codes "map"))
     (family_number names w) (sym (item_type-by names w) ∙ is) in
     (bytes_eq-Decides w (codes "map")).0 test
 
 no_token : (names : List (List ℕ)) (w : List ℕ) → item_type names w ≡ ty.Token → ⊥
-no_token names w is = token_by (bytes_eq w (codes "int")) (bytes_eq w (codes "bool")) (bytes_eq w (codes "text")) (bytes_eq w (codes "map"))
+no_token names w is = token_by (bytes_eq w (codes "int")) (bytes_eq w (codes "bool")) (bytes_eq w (codes "text"))
+    (bytes_eq w (codes "map"))
     (family_number names w) (sym (item_type-by names w) ∙ is)
 
 -- the children and the fields of an item's type
-children_by : (P : ℕ → Type 0) (t : ValType) (fs : List ℕ) → ((f : ℕ) → t ≡ ty.Node f → P f) → All P fs → All P (child_then t fs)
+children_by : (P : ℕ → Type 0) (t : ValType) (fs : List ℕ) → ((f : ℕ) → t ≡ ty.Node f → P f) → All P fs
+    → All P (child_then t fs)
 children_by P ty.Int fs here more = more
 children_by P ty.Bool fs here more = more
 children_by P ty.Text fs here more = more
@@ -148,7 +156,8 @@ children_by P ty.Map fs here more = more
 children_by P ty.Token fs here more = more
 children_by P (ty.Node f) fs here more = All-cons P f fs (here f refl) more
 
-fields_by : (t : ValType) (ts : List ValType) → (t ≡ ty.Map → ⊥) → (t ≡ ty.Token → ⊥) → All IsPlain ts → All IsPlain (field_then t ts)
+fields_by : (t : ValType) (ts : List ValType) → (t ≡ ty.Map → ⊥) → (t ≡ ty.Token → ⊥) → All IsPlain ts
+    → All IsPlain (field_then t ts)
 fields_by ty.Int ts no_map no_token more = All-cons IsPlain ty.Int ts plain_int more
 fields_by ty.Bool ts no_map no_token more = All-cons IsPlain ty.Bool ts plain_bool more
 fields_by ty.Text ts no_map no_token more = All-cons IsPlain ty.Text ts plain_text more
@@ -179,7 +188,8 @@ pub sided_children : (ds : List (Declared AstSaying)) (fam : List ℕ) (items : 
     → All (IsOfSide ds fam) (child_families (map (item_of (family_names ds)) items))
 sided_children ds fam [] all = All-nil (IsOfSide ds fam)
 sided_children ds fam (item ∷ items) all =
-    children_by (IsOfSide ds fam) (item_type (family_names ds) item.of) (child_families (map (item_of (family_names ds)) items))
+    children_by (IsOfSide ds fam) (item_type (family_names ds) item.of)
+    (child_families (map (item_of (family_names ds)) items))
     (λ f is.
     let fits = All-head (FitsIn ds fam) item items all in
     let of = node_type (family_names ds) item.of f is in
@@ -208,14 +218,16 @@ families_known g ds none = each_row ds (λ row. Contains (family_names ds) row.f
         by : (number : Option ℕ) → number_of (row_names (rows_in (take i ds))) base ≡ number
             → Contains (family_names ds) (row_at ds i name base own).family
         by None found =
-            let of = (without_base (rows_in (take i ds)) name base own (number_of (row_names (rows_in (take i ds))) base) found).0 in
+            let of = (without_base (rows_in (take i ds)) name base own
+            (number_of (row_names (rows_in (take i ds))) base) found).0 in
             subst (Contains (family_names ds)) (sym of)
             (family_stays ds i base (known (family_names (take i ds)) base (λ no_family.
             none i d at (subst (AstFault g ds Unknown i) (sym is)
             (no_base i name base own no_family (absent_without (row_names (rows_in (take i ds))) base found))))))
         by (Some b) found =
             let from = base_there (rows_in (take i ds)) base b found in
-            let of = (over_base (rows_in (take i ds)) name base own (number_of (row_names (rows_in (take i ds))) base) b from.0 found from.1).0 in
+            let of = (over_base (rows_in (take i ds)) name base own (number_of (row_names (rows_in (take i ds))) base)
+            b from.0 found from.1).0 in
             subst (Contains (family_names ds)) (sym of)
             (all_at (λ row. Contains (family_names ds) row.family) (rows_in (take i ds)) b from.0 all from.1)
 
@@ -234,11 +246,14 @@ items_fit g ds none typed = each_row ds (λ row. All (FitsIn ds row.family) row.
 
         one : (item : SaidItem) → Contains own item → FitsIn ds fam item
         one item among = record {
-          no_map = λ same. typed i d at (subst (AstFault g ds Typing i) (sym is) (map_item i name base own item among same));
+          no_map = λ same. typed i d at
+              (subst (AstFault g ds Typing i) (sym is) (map_item i name base own item among same));
           family = λ no_word. known (family_names ds) item.of (λ no_family.
-              none i d at (subst (AstFault g ds Unknown i) (sym is) (no_item_type i name base own item among no_word no_family)));
+              none i d at (subst (AstFault g ds Unknown i) (sym is)
+              (no_item_type i name base own item among no_word no_family)));
           side = λ no_word. same_truth (is_target ds item.of) (is_target ds fam) (λ other.
-              typed i d at (subst (AstFault g ds Typing i) (sym is) (item_of_other_side i name base own item among no_word other)));
+              typed i d at (subst (AstFault g ds Typing i) (sym is)
+              (item_of_other_side i name base own item among no_word other)));
         }
 
         own_fit : All (FitsIn ds fam) own
@@ -247,11 +262,15 @@ items_fit g ds none typed = each_row ds (λ row. All (FitsIn ds row.family) row.
         by : (number : Option ℕ) → number_of (row_names (rows_in (take i ds))) base ≡ number
             → All (FitsIn ds fam) (row_at ds i name base own).items
         by None found =
-            let are = (without_base (rows_in (take i ds)) name base own (number_of (row_names (rows_in (take i ds))) base) found).1 in
+            let are = (without_base (rows_in (take i ds)) name base own
+            (number_of (row_names (rows_in (take i ds))) base) found).1 in
             subst (All (FitsIn ds fam)) (sym are) own_fit
         by (Some b) found =
             let from = base_there (rows_in (take i ds)) base b found in
-            let parts = over_base (rows_in (take i ds)) name base own (number_of (row_names (rows_in (take i ds))) base) b from.0 found from.1 in
-            let before = all_at (λ row. All (FitsIn ds row.family) row.items) (rows_in (take i ds)) b from.0 all from.1 in
-            let here : All (FitsIn ds fam) from.0.items = subst (λ f. All (FitsIn ds f) from.0.items) (sym parts.0) before in
+            let parts = over_base (rows_in (take i ds)) name base own
+            (number_of (row_names (rows_in (take i ds))) base) b from.0 found from.1 in
+            let before = all_at (λ row. All (FitsIn ds row.family) row.items) (rows_in (take i ds)) b from.0 all from.1
+            in
+            let here : All (FitsIn ds fam) from.0.items = subst (λ f. All (FitsIn ds f) from.0.items) (sym parts.0)
+            before in
             subst (All (FitsIn ds fam)) (sym parts.1) (All-append (FitsIn ds fam) from.0.items own here own_fit)

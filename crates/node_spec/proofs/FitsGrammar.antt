@@ -1,5 +1,5 @@
 -- What AST declares without a fault fits the grammar.
-use Rattle.std.proofs.Common.{◌≡◌, ℕ, zero, suc, ◌+◌, ◌<◌, ◌≤◌, ◌⊎◌, inl, inr, Bool, true, false, List, [], ◌∷◌, ◌++◌, map, take, length, refl, sym, ap, ◌∙◌, subst, Option, Some, None, All, Contains, if◌then◌else◌, codes, arith}
+use Rattle.std.proofs.Common.{◌≡◌, ℕ, zero, suc, ◌+◌, ◌<◌, ◌≤◌, ◌⊎◌, inl, inr, Bool, true, false, List, [], ◌∷◌, ◌++◌, map, take, length, refl, sym, ap, ◌∙◌, subst, Option, Some, None, All, Contains, if◌then◌else◌, arith}
 use Rattle.std.specs.List.{slice_get}
 use Rattle.std.specs.Option.{unwrap_or}
 use Rattle.std.specs.Str.{bytes_eq}
@@ -9,19 +9,19 @@ use Rattle.std.proofs.lemmas.List.Elements.{All-cons, All-contains_itself, All-h
 use Rattle.std.proofs.lemmas.Option.{none-some}
 use Rattle.std.proofs.lemmas.Slice.Eq.{bytes_eq-Decides}
 use Rattle.ast_types.specs.Items.{child_families, field_types}
-use Rattle.ast_types.specs.TypeTable.{TypeTable, IsSound, family_at, type_at}
-use Rattle.cfg_model.specs.Cfg.{IsGrammar, Rule}
+use Rattle.ast_types.specs.TypeTable.{IsSound, family_at, type_at}
+use Rattle.cfg_model.specs.Cfg.{Rule}
 use Rattle.cfg_model.specs.declared.named.NamedGrammar.{NamedGrammar}
 use Rattle.ck_base.specs.declared.fault.Kind.{Kind}
 use Rattle.ck_base.specs.declared.fault.Kind.TheVariants.{Unknown, Typing, Limit}
 use Rattle.spec_text.specs.Declares.{Declared}
 use Rattle.spec_text.specs.FirstFault.{Accepts, rank}
 use Rattle.spec_text.specs.Sections.{SectionLines}
-use Rattle.spec_text.proofs.Lists.{all_at, map_get, order, take_all}
+use Rattle.spec_text.proofs.Lists.{all_at, order, take_all}
 use Rattle.node_spec.specs.AstShapes.{AstSaying, SaidItem, family, target, a_type, node, build}
 use Rattle.node_spec.specs.AstTables.{Row, families_in, family_names, family_number, families_by, family_by, item_of, node_family, node_or, rows_in, table_by, type_of_row}
 use Rattle.node_spec.specs.AstBuilds.{builds_from, nodes_by}
-use Rattle.node_spec.specs.AstFaults.{AstFault, AstHeadFault, ast, is_target, row_at, no_family, target_node, no_node, no_source_node, too_many_families, too_many_types, too_many_children, too_many_fields}
+use Rattle.node_spec.specs.AstFaults.{AstFault, AstHeadFault, is_target, row_at, no_family, target_node, no_node, no_source_node, too_many_families, too_many_types, too_many_children, too_many_fields}
 use Rattle.node_spec.specs.AstPromise.{judged_ast}
 use Rattle.node_spec.specs.Nodes.{HasFitItems, IsSourceFamily, FitGrammar}
 use Rattle.node_spec.specs.within.AstBuilt.{AllBuild}
@@ -32,7 +32,8 @@ use Rattle.node_spec.proofs.FitItems.{NoFaultAt, known, number_below, FitsIn, Is
 pub no_fault_at : (g : NamedGrammar) (lines : SectionLines) (ds : List (Declared AstSaying)) (kind : Kind)
     → Accepts (judged_ast g lines) ds → 0 < rank kind → NoFaultAt g ds kind
 no_fault_at g lines ds kind accepted late i d at fault =
-    accepted.no_fault kind d.number late (inl (record { place = i; declared = d; is = at; number = refl; fault = fault }))
+    accepted.no_fault kind d.number late
+    (inl (record { place = i; declared = d; is = at; number = refl; fault = fault }))
 
 pub no_head_fault : (g : NamedGrammar) (lines : SectionLines) (ds : List (Declared AstSaying)) (kind : Kind)
     → Accepts (judged_ast g lines) ds → 0 < rank kind → AstHeadFault g ds kind → ⊥
@@ -53,26 +54,31 @@ few_types g (d ∷ ds) none =
     let last = there (d ∷ ds) (length ds) (omega arith) in
     let all = take_all (d ∷ ds) (length ds + 1) (omega arith) in
     at_most (length (rows_in (d ∷ ds))) 512 (λ more.
-    none (length ds) last.0 last.1 (too_many_types (length ds) last.0.said (subst (λ l. 512 < length (rows_in l)) (sym all) more)))
+    none (length ds) last.0 last.1
+    (too_many_types (length ds) last.0.said (subst (λ l. 512 < length (rows_in l)) (sym all) more)))
 
-pub few_families : (g : NamedGrammar) (ds : List (Declared AstSaying)) → NoFaultAt g ds Limit → length (families_in ds) ≤ 128
+pub few_families : (g : NamedGrammar) (ds : List (Declared AstSaying)) → NoFaultAt g ds Limit
+    → length (families_in ds) ≤ 128
 few_families g [] none = omega arith
 few_families g (d ∷ ds) none =
     let last = there (d ∷ ds) (length ds) (omega arith) in
     let all = take_all (d ∷ ds) (length ds + 1) (omega arith) in
     at_most (length (families_in (d ∷ ds))) 128 (λ more.
-    none (length ds) last.0 last.1 (too_many_families (length ds) last.0.said (subst (λ l. 128 < length (families_in l)) (sym all) more)))
+    none (length ds) last.0 last.1
+    (too_many_families (length ds) last.0.said (subst (λ l. 128 < length (families_in l)) (sym all) more)))
 
 -- the items of a type, counted
 pub record HasFewParts (ds : List (Declared AstSaying)) (row : Row) : Type 0 where
   pub children : length (child_families (map (item_of (family_names ds)) row.items)) ≤ 8
   pub fields : length (field_types (map (item_of (family_names ds)) row.items)) ≤ 8
 
-pub few_parts : (g : NamedGrammar) (ds : List (Declared AstSaying)) → NoFaultAt g ds Limit → All (HasFewParts ds) (rows_in ds)
+pub few_parts : (g : NamedGrammar) (ds : List (Declared AstSaying)) → NoFaultAt g ds Limit
+    → All (HasFewParts ds) (rows_in ds)
 few_parts g ds none = each_row ds (HasFewParts ds) step
   where
     step : (i : ℕ) (d : Declared AstSaying) (name base : List ℕ) (own : List SaidItem) → slice_get ds i ≡ Some d
-        → d.said ≡ a_type name base own → All (HasFewParts ds) (rows_in (take i ds)) → HasFewParts ds (row_at ds i name base own)
+        → d.said ≡ a_type name base own → All (HasFewParts ds) (rows_in (take i ds))
+        → HasFewParts ds (row_at ds i name base own)
     step i d name base own at is all = record {
       children = at_most (length (child_families (map (item_of (family_names ds)) (row_at ds i name base own).items))) 8
           (λ more. none i d at (subst (AstFault g ds Limit i) (sym is) (too_many_children i name base own more)));
@@ -87,7 +93,8 @@ type_is [] names t row at = absurd (none-some row at)
 type_is (first ∷ rows) names zero row at = let it : first ≡ row = cc in ap (type_of_row names) it
 type_is (first ∷ rows) names (suc t) row at = type_is rows names t row at
 
-row_of_type : (rows : List Row) (names : List (List ℕ)) (t b : ℕ) → (type_at (map (type_of_row names) rows) t).base ≡ Some b
+row_of_type : (rows : List Row) (names : List (List ℕ)) (t b : ℕ)
+    → (type_at (map (type_of_row names) rows) t).base ≡ Some b
     → (row : Row) × (slice_get rows t ≡ Some row) × (row.base ≡ Some b)
 row_of_type [] names t b is = absurd (none-some b is)
 row_of_type (row ∷ rows) names zero b is = (row, refl, is)
@@ -116,10 +123,10 @@ sound_table ds all = record {
       let one = extends_one ds t b row.0 row.1 row.2 in (
         map (item_of (family_names ds)) one.own,
         ap (λ x. x.items) (type_is (rows_in ds) (family_names ds) t row.0 row.1)
-        ∙ ap (map (item_of (family_names ds))) one.items
-        ∙ map-append (item_of (family_names ds)) one.from.items one.own
-        ∙ ap (λ x. x.items ++ map (item_of (family_names ds)) one.own)
-        (sym (type_is (rows_in ds) (family_names ds) b one.from one.from_at)),
+            ∙ ap (map (item_of (family_names ds))) one.items
+            ∙ map-append (item_of (family_names ds)) one.from.items one.own
+            ∙ ap (λ x. x.items ++ map (item_of (family_names ds)) one.own)
+            (sym (type_is (rows_in ds) (family_names ds) b one.from one.from_at)),
       );
   family_there = λ t less.
       let same = length-map (rows_in ds) (type_of_row (family_names ds)) in
@@ -138,7 +145,8 @@ fit_row ds row fit few = record {
   plain = plain_fields ds row.family row.items fit;
   families = All-weaker (IsOfSide ds row.family) (λ f. (f < length (families_in ds))
       × ((family_at (families_in ds) f).target ≡ is_target ds row.family))
-      (λ f is. let less = is.0 in let same = length-map (families_in ds) (λ f. f.name) in (omega (arith, less, same), is.1))
+      (λ f is. let less = is.0 in let same = length-map (families_in ds) (λ f. f.name) in
+      (omega (arith, less, same), is.1))
       (child_families (map (item_of (family_names ds)) row.items)) (sided_children ds row.family row.items fit);
 }
 
@@ -147,8 +155,10 @@ fit_rows : (ds : List (Declared AstSaying)) (rows : List Row) → All (λ row. A
 fit_rows ds [] fit few = All-nil (λ row. HasFitItems (table_by ds) (type_of_row (family_names ds) row))
 fit_rows ds (row ∷ rows) fit few =
     All-cons (λ row. HasFitItems (table_by ds) (type_of_row (family_names ds) row)) row rows
-    (fit_row ds row (All-head (λ row. All (FitsIn ds row.family) row.items) row rows fit) (All-head (HasFewParts ds) row rows few))
-    (fit_rows ds rows (All-tail (λ row. All (FitsIn ds row.family) row.items) row rows fit) (All-tail (HasFewParts ds) row rows few))
+    (fit_row ds row (All-head (λ row. All (FitsIn ds row.family) row.items) row rows fit)
+    (All-head (HasFewParts ds) row rows few))
+    (fit_rows ds rows (All-tail (λ row. All (FitsIn ds row.family) row.items) row rows fit)
+    (All-tail (HasFewParts ds) row rows few))
 
 pub fit_types : (ds : List (Declared AstSaying)) → All (λ row. All (FitsIn ds row.family) row.items) (rows_in ds)
     → All (HasFewParts ds) (rows_in ds) → All (HasFitItems (table_by ds)) (table_by ds).types
@@ -162,7 +172,8 @@ pub record HasNodeLine (ds : List (Declared AstSaying)) (nonterminal name : List
   pub at : slice_get ds place ≡ Some declared
   pub said : declared.said ≡ node nonterminal name
 
-node_or_cases : (said : AstSaying) (wanted : List ℕ) (later : Option (List ℕ)) (name : List ℕ) → node_or said wanted later ≡ Some name
+node_or_cases : (said : AstSaying) (wanted : List ℕ) (later : Option (List ℕ)) (name : List ℕ)
+    → node_or said wanted later ≡ Some name
     → (said ≡ node wanted name) ⊎ (later ≡ Some name)
 node_or_cases (family first) wanted later name is = inr is
 node_or_cases (target first) wanted later name is = inr is
@@ -177,7 +188,8 @@ node_or_cases (node nonterminal first) wanted later name is = by (bytes_eq nonte
     by false equal is = inr is
 node_or_cases (build label e) wanted later name is = inr is
 
-pub node_line_of : (ds : List (Declared AstSaying)) (wanted name : List ℕ) → node_family ds wanted ≡ Some name → HasNodeLine ds wanted name
+pub node_line_of : (ds : List (Declared AstSaying)) (wanted name : List ℕ) → node_family ds wanted ≡ Some name
+    → HasNodeLine ds wanted name
 node_line_of [] wanted name is = absurd (none-some name is)
 node_line_of (d ∷ ds) wanted name is =
     by (λ later. node_line_of ds wanted name later) (node_or_cases d.said wanted (node_family ds wanted) name is)
@@ -190,7 +202,8 @@ node_line_of (d ∷ ds) wanted name is =
         record { place = suc more.place; declared = more.declared; at = more.at; said = more.said }
 
 -- each nonterminal has a family of the source side
-source_family : (ds : List (Declared AstSaying)) (name : List ℕ) → Contains (family_names ds) name → (is_target ds name ≡ true → ⊥)
+source_family : (ds : List (Declared AstSaying)) (name : List ℕ) → Contains (family_names ds) name
+    → (is_target ds name ≡ true → ⊥)
     → IsSourceFamily (table_by ds) (family_number (family_names ds) name)
 source_family ds name has not = (family_below ds name has, false_from_ne_true (is_target ds name) not)
 
@@ -219,18 +232,21 @@ pub of_source : (g : NamedGrammar) (ds : List (Declared AstSaying)) → NoFaultA
     → (AstHeadFault g ds Unknown → ⊥) → All (IsSourceFamily (table_by ds)) (families_by ds g.nonterminals)
 of_source g ds none typed no_head =
     All-map (IsSourceFamily (table_by ds)) (family_by ds) g.nonterminals
-    (All-weaker (Contains g.nonterminals) (λ n. IsSourceFamily (table_by ds) (family_by ds n)) (source_of g ds none typed no_head)
+    (All-weaker (Contains g.nonterminals) (λ n. IsSourceFamily (table_by ds) (family_by ds n))
+    (source_of g ds none typed no_head)
     g.nonterminals (All-contains_itself g.nonterminals))
 
 -- as many builds as rules
-pub build_each : (ds : List (Declared AstSaying)) (labels : List (List ℕ)) (rules : List Rule) → length labels ≡ length rules
+pub build_each : (ds : List (Declared AstSaying)) (labels : List (List ℕ)) (rules : List Rule)
+    → length labels ≡ length rules
     → length (builds_from ds labels rules) ≡ length rules
 build_each ds labels [] same = refl
 build_each ds [] (rule ∷ rules) same = absurd (omega (arith, same))
 build_each ds (label ∷ labels) (rule ∷ rules) same = ap suc (build_each ds labels rules (omega (arith, same)))
 
 -- the whole
-pub fits_grammar : (g : NamedGrammar) (lines : SectionLines) (ds : List (Declared AstSaying)) → Accepts (judged_ast g lines) ds
+pub fits_grammar : (g : NamedGrammar) (lines : SectionLines) (ds : List (Declared AstSaying))
+    → Accepts (judged_ast g lines) ds
     → length g.labels ≡ length g.grammar.rules → length g.nonterminals ≡ g.grammar.nonterminals → AllBuild g ds
     → FitGrammar g.grammar (nodes_by g ds)
 fits_grammar g lines ds accepted labels nonterminals builds =

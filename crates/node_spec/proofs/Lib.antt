@@ -1,12 +1,59 @@
-pub mod AstLists
+mod AstFamilies
+mod AstGathered
 mod AstHead
+mod AstLimits
 mod AstLines
-mod AstStages
-mod Items
-mod LineReadings
-mod OneAstSaying
-pub mod OneAst
+pub mod AstLists
+mod AstRowLists
 pub mod AstRows
+mod AstSides
+mod AstStages
+mod AstTwiceJoined
+mod AstTwiceLists
+mod AstTwicePasses
+mod AstTwiceUses
+mod AstTypeTable
+mod AstUnknown
+mod AstUnknownHead
+mod AstUnknownLists
+mod BuildExamples
+mod BuildLines
+mod BuildMakers
+mod BuildMeant
+mod BuildNames
+mod BuildRules
+mod BuildsFound
+mod Chains
+mod Conditions
+mod Ends
+mod ExpressionExamples
+mod FamiliesKnown
 mod FitItems
 mod FitsGrammar
+mod Following
+mod FoundParts
+mod FromWhole
+mod Glyphs
+mod Items
+mod JoinedFamilies
+mod LimitExamples
+mod LineReadings
+mod MeaningExamples
+mod MeantParts
+mod Nesting
+pub mod OneAst
+mod OneAstSaying
+pub mod OneSpoken
+mod OneWhole
+mod Primaries
 mod ReadAst
+mod ResolvedParts
+mod OperatorRows
+mod SameMakers
+mod Sayings
+mod SpokenForms
+mod Starts
+mod ToWhole
+mod TwiceExamples
+mod UnknownExamples
+mod WholeParts

@@ -1,7 +1,12 @@
+pub mod AstBuildSteps
 pub mod AstBuilt
 pub mod AstSeen
 pub mod AstStages
 pub mod AstSteps
+pub mod AstTwice
+pub mod AstUnknown
+pub mod AstWalks
 pub mod LineHeads
 pub mod Meant
+pub mod Wholes
 pub mod Writing

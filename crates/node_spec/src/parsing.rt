@@ -1,13 +1,14 @@
-ghost use Rattle.std.specs.Prelude.{◌≡◌, ℕ, map, MatchOption, IfOk};
+ghost use Rattle.std.specs.Prelude.{◌≡◌, ◌↔◌, ℕ, map, MatchOption, IfOk, IsTrue};
 ghost use Rattle.spec_text.specs.Parts.{NoReading, Reading};
 ghost use Rattle.spec_text.specs.Seen.{seen};
 ghost use Rattle.node_spec.specs.Notation.{IsSpoken, MayFollow};
 ghost use Rattle.node_spec.specs.within.Writing.{spoken_of};
 
+use crate::leaves::is_word_behind;
 use crate::written::Written;
 use bumpalo::Bump;
 use ck_base::NoMemory;
-use spec_text::Token;
+use spec_text::{Token, is_sign};
 use std::alloc::Global;
 
 /// The expression with which the tokens begin, and what follows it, where that may follow one.
@@ -23,4 +24,26 @@ pub(crate) fn read_written<'t, 's>(
         (λ read. MayFollow (map seen read.1.now))) }
 {
     Err(NoMemory)
+}
+
+/// Whether the tokens may follow an expression of a line.
+fn may_follow(tokens: &[Token<'_>]) -> bool
+    ensures { IsTrue result ↔ MayFollow (map seen tokens.now) }
+{
+    let Some((first, _)) = tokens.split_first() else {
+        return true;
+    };
+    match first {
+        Token::Word(word) => is_word_behind(word),
+        Token::Sign(_) => {
+            if is_sign(first, b")") {
+                true
+            } else if is_sign(first, b",") {
+                true
+            } else {
+                is_sign(first, b"=>")
+            }
+        }
+        Token::Number(_) | Token::Text(_) | Token::Class(_) => false,
+    }
 }

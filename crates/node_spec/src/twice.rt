@@ -7,9 +7,14 @@ ghost use Rattle.node_spec.specs.AstFaults.{ast, labels_in, names_in};
 ghost use Rattle.node_spec.specs.AstTables.{rows_in};
 ghost use Rattle.node_spec.specs.within.AstSeen.{declared_by, row_seen};
 ghost use Rattle.node_spec.specs.within.AstSteps.{HasNone};
+ghost use Rattle.node_spec.specs.within.AstTwice.{earlier_of};
 
+use crate::again::{Sort, first_again};
 use crate::ast_line::AstLine;
+use crate::item_twice::first_item_twice;
+use crate::reserved::first_reserved;
 use crate::rows::TypeRow;
+use crate::used_twice::first_used_twice;
 use cfg_model::NamedGrammar;
 use ck_base::NoMemory;
 use std::alloc::Global;
@@ -32,5 +37,29 @@ pub(crate) fn first_twice(
     ensures labels { let ds = map declared_by list.now in IfOk result (λ found. MatchOption found
         (AreApart (labels_in ds)) (λ line. line ≡ line)) }
 {
-    Err(NoMemory)
+    let declared = first_again(alloc, Sort::Declared, list)?;
+    let nonterminals = first_again(alloc, Sort::Nonterminal, list)?;
+    let labels = first_again(alloc, Sort::Label, list)?;
+    let reserved = first_reserved(list);
+    let items = first_item_twice(alloc, list, rows)?;
+    let used = first_used_twice(alloc, g, list)?;
+    let attached = earlier(nonterminals, labels);
+    let again = earlier(declared, attached);
+    let within = earlier(items, used);
+    let others = earlier(reserved, within);
+    let first = earlier(again, others);
+    Ok(first)
+}
+
+/// The earlier one of two lines, where there are two.
+fn earlier(a: Option<u32>, b: Option<u32>) -> Option<u32>
+    ensures { result ≡ earlier_of a b }
+{
+    let Some(first) = a else {
+        return b;
+    };
+    let Some(second) = b else {
+        return a;
+    };
+    Some(first.min(second))
 }

@@ -5,9 +5,14 @@ ghost use Rattle.spec_text.specs.FirstFault.{Least};
 ghost use Rattle.node_spec.specs.AstTables.{type_names};
 ghost use Rattle.node_spec.specs.within.AstSeen.{declared_by};
 ghost use Rattle.node_spec.specs.within.AstSteps.{AreFamilies, HasIn, IsBefore};
+ghost use Rattle.node_spec.specs.within.AstUnknown.{earlier_of};
 
 use crate::ast_line::AstLine;
 use crate::families::Families;
+use crate::unknown_head::is_head_unknown;
+use crate::unknown_lines::{
+    first_unknown_build, first_unknown_node, first_without_base, first_without_item_type,
+};
 use cfg_model::NamedGrammar;
 use ck_base::{Names, NoMemory};
 use std::alloc::Global;
@@ -31,5 +36,28 @@ pub(crate) fn first_unknown(
         ((line : ℕ) → HasIn g.now head ds unknown line → ⊥)
         (Least (HasIn g.now head ds unknown))) }
 {
-    Err(NoMemory)
+    if is_head_unknown(alloc, g, families, list)? {
+        return Ok(Some(head));
+    }
+    let base = first_without_base(alloc, list)?;
+    let item = first_without_item_type(&families.names, list);
+    let node = first_unknown_node(&g.nonterminals, &families.names, list);
+    let build = first_unknown_build(&g.labels, types, list);
+    let first = earlier(base, item);
+    let second = earlier(node, build);
+    let found = earlier(first, second);
+    Ok(found)
+}
+
+/// The lesser of two lines, where there are any.
+fn earlier(a: Option<u32>, b: Option<u32>) -> Option<u32>
+    ensures { result ≡ earlier_of a b }
+{
+    let Some(first) = a else {
+        return b;
+    };
+    let Some(second) = b else {
+        return a;
+    };
+    Some(first.min(second))
 }

@@ -3,6 +3,7 @@ use value_store::Name;
 
 /// What an expression may name: variables by their names, makers by theirs, of which the types are
 /// in the same order, and variables by two words. Of equal names the first one counts.
+#[derive(Drop)]
 pub(crate) struct Vocabulary<'s> {
     pub variables: &'s [Name],
     pub makers: &'s [Name],

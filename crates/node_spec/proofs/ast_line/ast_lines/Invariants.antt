@@ -1,5 +1,5 @@
 -- The lines so far have declared.
-use Rattle.std.proofs.Common.{ℕ, List, take, map, length, ◌≡◌}
+use Rattle.std.proofs.Common.{List, take, map, length, ◌≡◌}
 use Rattle.cfg_model.specs.declared.named.NamedGrammar.{NamedGrammar}
 use Rattle.spec_text.specs.Declares.{DeclareAll}
 use Rattle.spec_text.specs.Lines.{Line}

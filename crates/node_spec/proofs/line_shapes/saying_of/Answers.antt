@@ -7,7 +7,7 @@ pub returns-in-Some : goal.returns-in-Some
 returns-in-Some c = family_line _ _ c.in-Some.ensures
 
 pub returns-in-Some-name_behind : goal.returns-in-Some-name_behind
-returns-in-Some-name_behind c = target_line _ _ c.in-Some-name_behind.ensures
+returns-in-Some-name_behind c = search (target_line, c.in-Some-name_behind.ensures)
 
 pub returns-in-Some-2 : goal.returns-in-Some-2
 returns-in-Some-2 c = type_shape _ _ _ _ (rw c.in-Some-2.is at c.in_ok-name.ensures)

@@ -1,0 +1,9 @@
+-- The NODE lines so far name what is there.
+use Rattle.std.proofs.Common.{map}
+use Rattle.spec_text.proofs.Frame.{NoneBefore}
+use Rattle.node_spec.specs.within.AstSeen.{declared_by}
+use Rattle.node_spec.specs.within.AstUnknown.{NodeFault}
+use Rattle.node_spec.proofs.unknown_lines.first_unknown_node.Given as goal
+
+abbrev pub invariant-loop-line : goal.invariant-loop-line
+invariant-loop-line l = NoneBefore (map declared_by l.list) (NodeFault l.nonterminals l.families) l.line-index
