@@ -12,7 +12,7 @@ use Rattle.node_spec.specs.AstPromise.{DeclaresNodes, IsAstFault}
 use Rattle.node_spec.specs.Nodes.{FitGrammar, nodes_of}
 use Rattle.node_spec.specs.declared.nodes.NodeSpec.{NodeSpec}
 use Rattle.ck_chain.specs.GrammarAccepts.{HasTable, HasNoTable}
-use Rattle.ck_chain.specs.Promise.{IsParserOf, IsNamed, Refuses}
+use Rattle.ck_chain.specs.Promise.{IsNamed, Refuses}
 use Rattle.ck_chain.specs.declared.refused.Refused.{Refused}
 
 -- the grammar of the file's section, over the scanner's tokens; None where it has none
