@@ -68,7 +68,8 @@ module _ (spec : List ℕ) where
   NodesFail g = Either (GivesNodes spec g) (RefusesAst spec g) (λ nodes. OtherFails)
 
   behind_grammar : (g : Option NamedGrammar) → IsStep (NodesGive g) (NodesFail g)
-  behind_grammar g = then (GivesNodes spec g) (RefusesAst spec g) _ _ (ast_step spec g) (λ nodes gives. others_step nodes)
+  behind_grammar g =
+      then (GivesNodes spec g) (RefusesAst spec g) _ _ (ast_step spec g) (λ nodes gives. others_step nodes)
 
   -- the grammar, behind the rules
   abbrev GrammarGives : Rules → Option NamedGrammar × (Option Nodes × Option Nodes) → Type 0
@@ -123,7 +124,23 @@ module _ (spec : List ℕ) where
       in_order fits (inr (parts, has, inr (rules, gives, inr (g, grammar, inl refuses))))
   sorted _ (unbuilt fits tools line gives grammar nodes other) =
       let (parts, has) = rules_sections tools.rules gives in
-      in_order fits (inr (parts, has, inr (tools.rules, gives, inr (tools.grammar, grammar, inr (tools.nodes, nodes, (line, other, refl))))))
+      in_order fits (inr (
+        parts,
+        has,
+        inr (
+          tools.rules,
+          gives,
+          inr (
+            tools.grammar,
+            grammar,
+            inr (
+              tools.nodes,
+              nodes,
+              (line, other, refl),
+            ),
+          ),
+        ),
+      ))
 
   -- what the steps give, of an accepted specification
   abbrev found_by : Tools → Rules × (Option NamedGrammar × (Option Nodes × Option Nodes))
@@ -168,7 +185,13 @@ module _ (spec : List ℕ) where
     | inl is ↦ not_refused refusal.SpecTooLong (too_long is)
     | inr fits ↦ all_steps.some
         (λ all gives. not_accepted (record { rules = all.1.0; grammar = all.1.1.0; nodes = all.1.1.1.0 })
-        (record { fits = fits; rules = gives.1.0; grammar = gives.1.1.0; nodes = gives.1.1.1.0; all_built = gives.1.1.1.1.1 }))
+        (record {
+          fits = fits;
+          rules = gives.1.0;
+          grammar = gives.1.1.0;
+          nodes = gives.1.1.1.0;
+          all_built = gives.1.1.1.1.1;
+        }))
         (λ r failed. not_refused r (refuses r fits failed))
   ]
     where

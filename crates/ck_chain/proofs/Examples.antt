@@ -131,14 +131,16 @@ accepts_none = record {
 pub tokens_need_none : (tools : Tools) → HasNo (Misses tools of_tokens)
 tokens_need_none tools section misses = elim misses [ ]
 
-pub derivation_needs_grammar : (rules : Rules) → Misses (record { rules = rules; grammar = None; nodes = None }) of_derive Lalr
+pub derivation_needs_grammar : (rules : Rules)
+    → Misses (record { rules = rules; grammar = None; nodes = None }) of_derive Lalr
 derivation_needs_grammar rules = no_grammar refl
 
 -- a tree needs a grammar first, then the nodes
 tree_needs_grammar : (rules : Rules) → Misses (record { rules = rules; grammar = None; nodes = None }) of_tree Lalr
 tree_needs_grammar rules = no_grammar_of_tree refl
 
-tree_needs_nodes : (rules : Rules) (g : NamedGrammar) → Misses (record { rules = rules; grammar = Some g; nodes = None }) of_tree Ast
+tree_needs_nodes : (rules : Rules) (g : NamedGrammar)
+    → Misses (record { rules = rules; grammar = Some g; nodes = None }) of_tree Ast
 tree_needs_nodes rules g = no_nodes g refl refl
 
 -- END is the terminal behind all tokens, and rules count from 1
@@ -174,7 +176,11 @@ source_at_the_limit stage tools source size answers = by (refused refusal.Source
         made_too_long _ _ (derive g o given (Deriving.syntax_error ks e n at comes wrong)) is = cc
         made_too_long _ _ (derive g o given (Deriving.bad_token ks e at comes bad)) is = cc
         made_too_long _ _ (derive g o given (Deriving.derived ks place f comes d)) is = cc
-        made_too_long _ _ (tree g nodes o given given_nodes (treeing.wrong _ (Deriving.syntax_error ks e n at comes wrong))) is = cc
-        made_too_long _ _ (tree g nodes o given given_nodes (treeing.wrong _ (Deriving.bad_token ks e at comes bad))) is = cc
-        made_too_long _ _ (tree g nodes o given given_nodes (treeing.shown ks place f _ comes d (treeing.too_large more))) is = cc
-        made_too_long _ _ (tree g nodes o given given_nodes (treeing.shown ks place f _ comes d (treeing.printed few))) is = cc
+        made_too_long _ _ (tree g nodes o given given_nodes (treeing.wrong _ (Deriving.syntax_error ks e n at comes wrong))) is =
+            cc
+        made_too_long _ _ (tree g nodes o given given_nodes (treeing.wrong _ (Deriving.bad_token ks e at comes bad))) is =
+            cc
+        made_too_long _ _ (tree g nodes o given given_nodes (treeing.shown ks place f _ comes d (treeing.too_large more))) is =
+            cc
+        made_too_long _ _ (tree g nodes o given given_nodes (treeing.shown ks place f _ comes d (treeing.printed few))) is =
+            cc

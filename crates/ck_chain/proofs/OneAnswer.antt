@@ -76,9 +76,11 @@ deriving_no_usage rules g source _ (Deriving.syntax_error ks e k at comes wrong)
 deriving_no_usage rules g source _ (Deriving.bad_token ks e at comes bad) is = cc
 deriving_no_usage rules g source _ (Deriving.derived ks place f comes d) is = cc
 
-treeing_no_usage : (rules : Rules) (g : NamedGrammar) (nodes : Nodes) (source : List ℕ) (o : Outcome) → Treeing rules g nodes source o
+treeing_no_usage : (rules : Rules) (g : NamedGrammar) (nodes : Nodes) (source : List ℕ) (o : Outcome)
+    → Treeing rules g nodes source o
     → o ≡ refused refusal.Usage → ⊥
-treeing_no_usage rules g nodes source _ (treeing.wrong r derives) is = deriving_no_usage rules g source (refused r) derives is
+treeing_no_usage rules g nodes source _ (treeing.wrong r derives) is =
+    deriving_no_usage rules g source (refused r) derives is
 treeing_no_usage rules g nodes source _ (treeing.shown ks place f _ comes d (treeing.too_large more)) is = cc
 treeing_no_usage rules g nodes source _ (treeing.shown ks place f _ comes d (treeing.printed few)) is = cc
 
@@ -86,7 +88,8 @@ treeing_no_usage rules g nodes source _ (treeing.shown ks place f _ comes d (tre
 makes_no_usage : (tools : Tools) (source : List ℕ) (stage : Stage) (o : Outcome) → Makes tools source stage o → o ≡ refused refusal.Usage → ⊥
 makes_no_usage tools source _ _ (tokens o scans) is = scanning_no_usage tools.rules source o scans is
 makes_no_usage tools source _ _ (derive g o given derives) is = deriving_no_usage tools.rules g source o derives is
-makes_no_usage tools source _ _ (tree g nodes o given given_nodes builds) is = treeing_no_usage tools.rules g nodes source o builds is
+makes_no_usage tools source _ _ (tree g nodes o given given_nodes builds) is =
+    treeing_no_usage tools.rules g nodes source o builds is
 
 pub never_usage : (stage : Stage) (tools : Tools) (source : List ℕ) → AnswerOf stage tools source (refused refusal.Usage) → ⊥
 never_usage stage tools source answers = by (refused refusal.Usage) answers refl
@@ -107,8 +110,10 @@ module _ (spec : List ℕ) (tools : Tools) (accepts : Accepts spec tools) (sourc
   one_making _ _ _ (tree g nodes o given given_nodes builds) (tree h others p given2 given_others builds2) =
       let same : h ≡ g = some_same h g (sym given2 ∙ given) in
       let same_nodes : others ≡ nodes = some_same others nodes (sym given_others ∙ given_nodes) in
-      one_treeing tools.rules g (has_table spec tools.rules.tokens tools.grammar g given accepts.grammar) nodes source o p builds
-      (subst (λ x. Treeing tools.rules g x source p) same_nodes (subst (λ x. Treeing tools.rules x others source p) same builds2))
+      one_treeing tools.rules g
+      (has_table spec tools.rules.tokens tools.grammar g given accepts.grammar) nodes source o p builds
+      (subst (λ x. Treeing tools.rules g x source p) same_nodes (subst
+      (λ x. Treeing tools.rules x others source p) same builds2))
 
   pub one_answer : (stage : Stage) (o p : Outcome) → AnswerOf stage tools source o → AnswerOf stage tools source p → o ≡ p
   one_answer stage _ _ (lacks a misses) (lacks b misses2) =

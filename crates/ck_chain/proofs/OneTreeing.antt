@@ -34,22 +34,27 @@ some_showing table v none = elim (cases_lt 1048576 (pure_count v)) [
 
 module _ (rules : Rules) (g : NamedGrammar) (has : HasTable g) (nodes : Nodes) (source : List ℕ) where
   -- a source with a derivation isn't refused
-  not_wrong : (r : Refusal) (tokens : List TokenRef) (place : ℕ) (f : Forest TokenRef) → Deriving rules g source (refused r)
+  not_wrong : (r : Refusal) (tokens : List TokenRef) (place : ℕ) (f : Forest TokenRef)
+      → Deriving rules g source (refused r)
       → Comes rules.list source 0 0 tokens (finished place) → Derivation terminal_of g.grammar tokens f → ⊥
   not_wrong r tokens place f derives comes d =
-      let same = one_deriving rules g has source (refused r) (output (derive_text rules.tokens g.labels source (postorder f))) derives
+      let same =
+      one_deriving rules g has source (refused r) (output (derive_text rules.tokens g.labels source (postorder f))) derives
       (derived tokens place f comes d) in
       cc
 
   pub one_treeing : (o p : Outcome) → Treeing rules g nodes source o → Treeing rules g nodes source p → o ≡ p
-  one_treeing _ _ (wrong r derives) (wrong s derives2) = one_deriving rules g has source (refused r) (refused s) derives derives2
+  one_treeing _ _ (wrong r derives) (wrong s derives2) =
+      one_deriving rules g has source (refused r) (refused s) derives derives2
   one_treeing _ _ (wrong r derives) (shown ls place h p b d2 shows2) = absurd (not_wrong r ls place h derives b d2)
   one_treeing _ _ (shown ks place f o a d shows) (wrong s derives) = absurd (not_wrong s ks place f derives a d)
   one_treeing _ _ (shown ks place f o a d shows) (shown ls place2 h p b d2 shows2) =
       let (tokens, endings) = one_stream rules.list source ks ls (finished place) (finished place2) a b in
       let forests = one_forest g has ls f h (subst (λ l. Derivation terminal_of g.grammar l f) tokens d) d2 in
-      let values : value_in nodes source ks f ≡ value_in nodes source ls h = ap₂ (value_in nodes source) tokens forests in
-      one_showing nodes.table (value_in nodes source ls h) o p (subst (λ v. Showing nodes.table v o) values shows) shows2
+      let values : value_in nodes source ks f ≡ value_in nodes source ls h =
+      ap₂ (value_in nodes source) tokens forests in
+      one_showing nodes.table (value_in nodes source ls h) o p (subst
+      (λ v. Showing nodes.table v o) values shows) shows2
 
   pub some_treeing : HasNo (Treeing rules g nodes source) → ⊥
   some_treeing none = some_deriving rules g has source by

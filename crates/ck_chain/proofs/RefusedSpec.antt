@@ -90,7 +90,8 @@ module _ (spec literals : List ℕ) where
   nodes_if _ _ AreFound.without_grammar = tt
   nodes_if _ _ (AreFound.no_nodes g none) = tt
   nodes_if _ _ (AreFound.nodes g found declares fit) = record {
-    same = λ source. one_nodes spec g (nodes_of source literals found) (nodes_of [] literals found) (declares source) (declares []);
+    same = λ source. one_nodes spec g (nodes_of source literals found) (nodes_of [] literals found)
+        (declares source) (declares []);
     fit = fit;
   }
 
@@ -119,7 +120,8 @@ module _ (spec : List ℕ) (fits : length spec ≤ 1048576) (rules : Rules) (giv
   pub refused_of_ast : (grammar : Option NamedGrammar) (fault : SpecFault) → GivesGrammar spec rules.tokens grammar
       → IsFaultOfNodes spec grammar fault → Refuses (RefusesSpec spec) (refused_of fault)
   refused_of_ast None fault given never = absurd never
-  refused_of_ast (Some g) (Bad line kind) given is = of_ast fits rules (Some g) _ gives given (nodes.faulty g line kind is)
+  refused_of_ast (Some g) (Bad line kind) given is =
+      of_ast fits rules (Some g) _ gives given (nodes.faulty g line kind is)
   refused_of_ast (Some g) NoMemory given is = tt
 
   -- and a section that isn't built
@@ -127,7 +129,12 @@ module _ (spec : List ℕ) (fits : length spec ≤ 1048576) (rules : Rules) (giv
       → GivesGrammar spec rules.tokens grammar → AreFound spec literals grammar found → IsFirstOther spec built line
       → RefusesSpec spec (BadSpec line Syntax)
   refused_unbuilt literals grammar found line given nodes_found other =
-      unbuilt fits (record { rules = rules; grammar = grammar; nodes = option_map (nodes_of [] literals) found }) line gives given
+      unbuilt fits (record {
+        rules = rules;
+        grammar = grammar;
+        nodes = option_map
+            (nodes_of [] literals) found;
+      }) line gives given
       (gives_nodes spec literals grammar found nodes_found) other
 
 -- without the sections LALR and ELL there is no grammar

@@ -41,7 +41,8 @@ module _ (tools : Toolset) (are : AreTools tools) (g : NamedGrammar) (is : tools
 
   pub nodes_of_tools : (nodes : NodeSpec) → tools.nodes ≡ Some nodes → AreNodesFor g tools.literals nodes
   nodes_of_tools nodes is_nodes =
-      subst (AreNodesIf (Some g) tools.literals) is_nodes (subst (λ x. AreNodesIf x tools.literals tools.nodes) is are.nodes_fit)
+      subst (AreNodesIf (Some g) tools.literals) is_nodes (subst
+      (λ x. AreNodesIf x tools.literals tools.nodes) is are.nodes_fit)
 
 -- the steps of a parse are a reading of its tokens
 pub reading : (g : Cfg) (tokens : List TokenRef) (ending : Ending) (steps : List Step)
@@ -55,23 +56,29 @@ one_lies text (act.Reduce r) inside = tt
 
 pub all_lie : (text : List ℕ) (steps : List Step) → All (IsInside text) steps → All (LiesInSource text) steps
 all_lie text [] inside = All-nil (LiesInSource text)
-all_lie text (step ∷ steps) inside = All-cons (LiesInSource text) step steps (one_lies text step (All-head (IsInside text) step steps inside))
+all_lie text (step ∷ steps) inside =
+    All-cons (LiesInSource text) step steps (one_lies text step (All-head (IsInside text) step steps inside))
     (all_lie text steps (All-tail (IsInside text) step steps inside))
 
 -- the refusal for a wrong place is the one of deriving
-pub refused_there : (rules : Rules) (g : NamedGrammar) (nodes : Nodes) (source : List ℕ) (tokens : List TokenRef) (ending : Ending)
+pub refused_there : (rules : Rules) (g : NamedGrammar) (nodes : Nodes) (source : List ℕ) (tokens : List TokenRef)
+    (ending : Ending)
     (error : ParseError) → Comes rules.list source 0 0 tokens ending → Parses g.grammar tokens ending (Err error)
     → IfSome (answer_in (Err (refused_at source error))) (Treeing rules g nodes source)
-refused_there rules g nodes source tokens ending (fault.SyntaxError k at) comes is = wrong _ (syntax_error tokens ending k at comes is)
-refused_there rules g nodes source tokens ending (fault.BadToken at) comes bad = wrong _ (bad_token tokens ending at comes bad)
+refused_there rules g nodes source tokens ending (fault.SyntaxError k at) comes is =
+    wrong _ (syntax_error tokens ending k at comes is)
+refused_there rules g nodes source tokens ending (fault.BadToken at) comes bad =
+    wrong _ (bad_token tokens ending at comes bad)
 refused_there rules g nodes source tokens ending fault.NoMemory comes free = tt
 
 -- an answer that shows the value of what the steps read is the stage's
-pub treed : (rules : Rules) (g : NamedGrammar) (nodes : Nodes) (source : List ℕ) (tokens : List TokenRef) (ending : Ending) (steps : List Step)
+pub treed : (rules : Rules) (g : NamedGrammar) (nodes : Nodes) (source : List ℕ) (tokens : List TokenRef)
+    (ending : Ending) (steps : List Step)
     (answer : Outcome) → Comes rules.list source 0 0 tokens ending → IsParsed g.grammar tokens ending steps
     → ShowsReading g.grammar nodes source steps answer → Treeing rules g nodes source answer
 treed rules g nodes source tokens ending steps answer comes parsed shows =
-    shown tokens parsed.place parsed.forest answer (subst (Comes rules.list source 0 0 tokens) parsed.ended comes) parsed.derivation
+    shown tokens parsed.place parsed.forest answer (subst
+    (Comes rules.list source 0 0 tokens) parsed.ended comes) parsed.derivation
     (shows tokens parsed.forest (reading g.grammar tokens ending steps parsed))
 
 -- what the steps build, by nodes that are the same, is printed or too large
@@ -93,5 +100,6 @@ module _ (g : Cfg) (these nodes : Nodes) (same : these ≡ nodes) (source : List
       → ShowsReading g nodes source steps (refused SourceTooLarge)
   shows_too_large literals error is builds = λ tokens forest reads.
       let more : 1048576 < pure_count (value_in these source tokens forest) =
-      subst (λ e. IsBuilt source literals these (value_in these source tokens forest) (Err e)) is (builds tokens forest reads) in
+      subst (λ e. IsBuilt source literals these (value_in these source tokens forest) (Err e)) is
+      (builds tokens forest reads) in
       subst (λ x. Showing x.table (value_in x source tokens forest) (refused SourceTooLarge)) same (too_large more)

@@ -25,8 +25,8 @@ pub data Showing (table : TypeTable) (v : PureValue) : Outcome → Type 0 where
 abbrev pub value_in : Nodes → List ℕ → List TokenRef → Forest TokenRef → PureValue
 value_in nodes source tokens f = built_value nodes (tokens_in_source source tokens) f
 
--- building the tree of the source by the grammar and its nodes: the refusal that deriving it gives, else the value of the
--- derivation of its tokens in print
+-- building the tree of the source by the grammar and its nodes: the refusal that deriving it gives, else the value of
+-- the derivation of its tokens in print
 pub data Treeing (rules : Rules) (g : NamedGrammar) (nodes : Nodes) (source : List ℕ) : Outcome → Type 0 where
   wrong : (r : Refusal) → Deriving rules g source (refused r) → Treeing rules g nodes source (refused r)
   shown : (tokens : List TokenRef) (place : ℕ) (f : Forest TokenRef) (answer : Outcome)

@@ -26,7 +26,8 @@ pub returns-in_err-grammar-clause-refuses : goal.returns-in_err-grammar-clause-r
 returns-in_err-grammar-clause-refuses c =
     let have : HaveTables (rules_of c.in_ok-rules.rules) =
     record { bodies = c.in-Ok.ensures.bodies; scanner = c.in-Ok.ensures.scanner; splits = c.in-Ok.ensures.splits } in
-    let gives : GivesRules c.args.spec.now (rules_of c.in_ok-rules.rules) = record { declares = c.in_ok-rules.ensures.rules; tables = have } in
+    let gives : GivesRules c.args.spec.now (rules_of c.in_ok-rules.rules) =
+    record { declares = c.in_ok-rules.ensures.rules; tables = have } in
     passed_on _ _ _ c.from_residual-in_err-grammar.ensures.1 (refused_of_grammar _ c.requires _ gives _ c.in_err-grammar.ensures.fault)
 
 pub parser_of-requires : goal.parser_of-requires
@@ -36,7 +37,8 @@ pub returns-in_err-parser-clause-refuses : goal.returns-in_err-parser-clause-ref
 returns-in_err-parser-clause-refuses c =
     let have : HaveTables (rules_of c.in_ok-rules.rules) =
     record { bodies = c.in-Ok.ensures.bodies; scanner = c.in-Ok.ensures.scanner; splits = c.in-Ok.ensures.splits } in
-    let gives : GivesRules c.args.spec.now (rules_of c.in_ok-rules.rules) = record { declares = c.in_ok-rules.ensures.rules; tables = have } in
+    let gives : GivesRules c.args.spec.now (rules_of c.in_ok-rules.rules) =
+    record { declares = c.in_ok-rules.ensures.rules; tables = have } in
     passed_on _ _ _ c.from_residual-in_err-parser.ensures.1
     (refused_without_table _ c.requires _ gives _ _ c.in_ok-grammar.ensures.found c.in_err-parser.ensures.refused)
 
@@ -47,17 +49,21 @@ pub returns-in_err-nodes-clause-refuses : goal.returns-in_err-nodes-clause-refus
 returns-in_err-nodes-clause-refuses c =
     let have : HaveTables (rules_of c.in_ok-rules.rules) =
     record { bodies = c.in-Ok.ensures.bodies; scanner = c.in-Ok.ensures.scanner; splits = c.in-Ok.ensures.splits } in
-    let gives : GivesRules c.args.spec.now (rules_of c.in_ok-rules.rules) = record { declares = c.in_ok-rules.ensures.rules; tables = have } in
+    let gives : GivesRules c.args.spec.now (rules_of c.in_ok-rules.rules) =
+    record { declares = c.in_ok-rules.ensures.rules; tables = have } in
     passed_on _ _ _ c.from_residual-in_err-nodes.ensures.1
-    (refused_of_ast _ c.requires _ gives _ _ (gives_grammar _ _ _ c.in_ok-grammar.ensures.found c.in_ok-parser.ensures.has)
+    (refused_of_ast _ c.requires _ gives _ _ (gives_grammar _ _ _ c.in_ok-grammar.ensures.found
+    c.in_ok-parser.ensures.has)
     c.in_err-nodes.ensures.fault)
 
 pub returns-in-Some-clause-refuses : goal.returns-in-Some-clause-refuses
 returns-in-Some-clause-refuses c =
     let have : HaveTables (rules_of c.in_ok-rules.rules) =
     record { bodies = c.in-Ok.ensures.bodies; scanner = c.in-Ok.ensures.scanner; splits = c.in-Ok.ensures.splits } in
-    let gives : GivesRules c.args.spec.now (rules_of c.in_ok-rules.rules) = record { declares = c.in_ok-rules.ensures.rules; tables = have } in
-    refused_unbuilt _ c.requires _ gives _ _ _ _ (gives_grammar _ _ _ c.in_ok-grammar.ensures.found c.in_ok-parser.ensures.has)
+    let gives : GivesRules c.args.spec.now (rules_of c.in_ok-rules.rules) =
+    record { declares = c.in_ok-rules.ensures.rules; tables = have } in
+    refused_unbuilt _ c.requires _ gives _ _ _ _ (gives_grammar _ _ _ c.in_ok-grammar.ensures.found
+    c.in_ok-parser.ensures.has)
     c.in_ok-nodes.ensures.found (c.in-Some.ensures c.args.spec.now c.in_ok-all.ensures.sections)
 
 pub returns-clause-accepts : goal.returns-clause-accepts

@@ -15,4 +15,5 @@ returns-in_ok-nodes-in-Some-section_of-clause-found c =
     rw c.in-Some.is (found_nodes _ _ c.in-Some.g _ read.ensures.nodes read.ensures.fits)
 
 pub returns-in-None-section_of-clause-found : goal.returns-in-None-section_of-clause-found
-returns-in-None-section_of-clause-found c = rw c.in-Some.is (no_nodes c.in-Some.g (c.in-None-section_of.ensures _ c.requires.read))
+returns-in-None-section_of-clause-found c =
+    rw c.in-Some.is (no_nodes c.in-Some.g (c.in-None-section_of.ensures _ c.requires.read))

@@ -28,24 +28,28 @@ pub tree_of_steps-requires-clause-inside : goal.tree_of_steps-requires-clause-in
 tree_of_steps-requires-clause-inside c =
     let scans = c.requires.tools.scans in
     let (tokens, ending, comes) = has_run _ _ scans _ c.known_bytes.ensures 0 0 scans.some (at_begin _) in
-    rw c.as_slice.ensures.value (all_lie _ _ (steps_inside _ _ tokens ending _ (comes_inside _ _ 0 0 tokens ending (at_begin _) comes)
+    rw c.as_slice.ensures.value (all_lie _ _ (steps_inside _ _ tokens ending _ (comes_inside _ _ 0 0 tokens ending
+    (at_begin _) comes)
     (c.in-Ok.ensures tokens ending comes)))
 
 pub tree_of_steps-requires-clause-fit : goal.tree_of_steps-requires-clause-fit
-tree_of_steps-requires-clause-fit c = rw c.bytes.ensures (nodes_of_tools _ c.requires.tools _ c.requires.grammar _ c.requires.nodes)
+tree_of_steps-requires-clause-fit c =
+    rw c.bytes.ensures (nodes_of_tools _ c.requires.tools _ c.requires.grammar _ c.requires.nodes)
 
 pub returns-in-Ok : goal.returns-in-Ok
 returns-in-Ok c =
     let scans = c.requires.tools.scans in
     let (tokens, ending, comes) = has_run _ _ scans _ c.known_bytes.ensures 0 0 scans.some (at_begin _) in
     IfSome_then (answer_in c.tree_of_steps.result) c.tree_of_steps.ensures
-    (λ answer shows. treed _ _ _ _ tokens ending _ answer comes (c.in-Ok.ensures tokens ending comes) (rw (c.as_slice.ensures.value, c.bytes.ensures) at shows))
+    (λ answer shows. treed _ _ _ _ tokens ending _ answer comes (c.in-Ok.ensures tokens ending comes) (rw
+    (c.as_slice.ensures.value, c.bytes.ensures) at shows))
 
 pub wrong_place-requires-clause-place : goal.wrong_place-requires-clause-place
 wrong_place-requires-clause-place c =
     let scans = c.requires.tools.scans in
     let (tokens, ending, comes) = has_run _ _ scans _ c.known_bytes.ensures 0 0 scans.some (at_begin _) in
-    place_inside _ _ tokens ending _ (comes_inside _ _ 0 0 tokens ending (at_begin _) comes) (c.in-Err.ensures tokens ending comes)
+    place_inside _ _ tokens ending _ (comes_inside _ _ 0 0 tokens ending (at_begin _) comes)
+    (c.in-Err.ensures tokens ending comes)
 
 pub returns-in-Err : goal.returns-in-Err
 returns-in-Err c =
