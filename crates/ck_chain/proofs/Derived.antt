@@ -1,5 +1,5 @@
 -- The tokens that a parser draws from a source, and what its answer says of the source.
-use Rattle.std.proofs.Common.{◌≡◌, ◌⊎◌, ℕ, ◌+◌, ◌^◌, ◌<◌, ◌≤◌, inl, inr, List, [], ◌∷◌, ◌++◌, length, map, All, Option, None, Some, IfSome, Err, refl, sym, ap, ◌∙◌, subst, arith, slice_get}
+use Rattle.std.proofs.Common.{◌≡◌, ℕ, ◌+◌, ◌^◌, ◌<◌, ◌≤◌, inl, inr, List, [], ◌∷◌, ◌++◌, length, map, All, Some, IfSome, Err, sym, subst, arith, slice_get}
 use Rattle.std.proofs.lemmas.List.Elements.{All-cons, All-nil, All-head, All-tail}
 use Rattle.cfg_model.specs.Cfg.{Cfg}
 use Rattle.cfg_model.specs.Derivation.{Forest, empty, leaf, node, yield, Move, shift, reduce, postorder}
@@ -18,7 +18,7 @@ use Rattle.lalr_tables.specs.declared.plain.PlainLr.{PlainLr}
 use Rattle.parse_driver.specs.Parse.{move_of, IsParsed, IsFirstWrong, a_token, the_end, Parses}
 use Rattle.parse_driver.specs.declared.refusal.ParseError.{ParseError}
 use Rattle.parse_driver.specs.declared.refusal.ParseError.TheVariants as fault
-use Rattle.parse_driver.specs.Stream.{Ending, finished, bad_at}
+use Rattle.parse_driver.specs.Stream.{Ending}
 use Rattle.parse_driver.specs.declared.step.Step.{Step}
 use Rattle.parse_driver.specs.declared.step.Step.TheVariants as act
 use Rattle.parse_driver.specs.declared.tokens.TokenRef.{TokenRef}

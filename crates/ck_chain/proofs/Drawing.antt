@@ -1,9 +1,8 @@
 -- What a scan draws of the tokens that come.
-use Rattle.std.proofs.Common.{◌≡◌, ℕ, ◌+◌, ◌<◌, ◌≤◌, List, [], ◌∷◌, length, map, drop, Option, None, Some, refl, sym, ap, ◌∙◌, subst, arith, length-drop, slice_get}
+use Rattle.std.proofs.Common.{◌≡◌, ℕ, ◌≤◌, List, [], ◌∷◌, length, map, drop, None, Some, refl, sym, ap, ◌∙◌, arith, slice_get}
 use Rattle.rex_model.specs.Rules.{Rule}
 use Rattle.rex_model.specs.Run.{Scans, Token, Tokens}
 use Rattle.rex_model.specs.Run as run
-use Rattle.rex_model.specs.Winner.{Winner, next_state}
 use Rattle.rex_model.specs.declared.scan.Scan.TheVariants as scan
 use Rattle.rex_model.proofs.OneRun.{none_at_end, same_winner, same_after}
 use Rattle.parse_driver.specs.Stream.{Ending, finished, bad_at, Draws}

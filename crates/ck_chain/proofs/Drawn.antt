@@ -1,7 +1,7 @@
 -- The walk to the next token: texts are skipped, and the same tokens come.
-use Rattle.std.proofs.Common.{◌≡◌, ℕ, ◌+◌, ◌<◌, ◌≤◌, List, [], ◌∷◌, length, drop, Option, None, Some, IfSome, refl, sym, ap, ◌∙◌, subst, arith, slice_get}
+use Rattle.std.proofs.Common.{◌≡◌, ℕ, ◌<◌, ◌≤◌, List, [], length, drop, Option, None, Some, IfSome, ap, ◌∙◌, arith, slice_get}
 use Rattle.std.proofs.lemmas.Option.{slice_get_within}
-use Rattle.rex_model.specs.Rules.{Rule, Rules}
+use Rattle.rex_model.specs.Rules.{Rule}
 use Rattle.rex_model.specs.Run.{Scans}
 use Rattle.rex_model.specs.Tables.{Tables, GivesWinners}
 use Rattle.rex_model.specs.declared.scan.Scan.{Scan}

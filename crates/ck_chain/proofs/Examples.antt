@@ -5,6 +5,7 @@ use Rattle.ck_base.specs.Counts.{HasMoreThan}
 use Rattle.ck_base.specs.Found.{HasNo}
 use Rattle.ck_base.specs.declared.refusal.Refusal.TheVariants as refusal
 use Rattle.cfg_model.specs.Derivation.{empty, leaf, node, postorder}
+use Rattle.cfg_model.specs.declared.named.NamedGrammar.{NamedGrammar}
 use Rattle.rex_model.specs.Language.{bytes, class, plus}
 use Rattle.rex_model.specs.Run.{Tokens as TokensOf, finished}
 use Rattle.rex_model.specs.Winner.{Winner}
@@ -14,14 +15,15 @@ use Rattle.spec_text.specs.Promise.{HasSection, IsFirstOther}
 use Rattle.spec_text.specs.Sections.{SectionLines, part_from}
 use Rattle.spec_text.specs.declared.section.Part.{Part}
 use Rattle.spec_text.specs.declared.section.Section.{Section}
-use Rattle.spec_text.specs.declared.section.Section.TheVariants.{Rex, Lalr}
+use Rattle.spec_text.specs.declared.section.Section.TheVariants.{Rex, Lalr, Ast}
 use Rattle.spec_text.proofs.OneSections.{one_order}
 use Rattle.spec_text.proofs.SectionExamples.{rex_end_file, rex_end_lines, rex_end_parts, rex_end_sections}
 use Rattle.front_spec.specs.GrammarPromise.{HasGrammar, IsGrammarSection, for_lalr, for_ell}
 use Rattle.front_spec.specs.RexRules.{rules_by}
 use Rattle.front_spec.proofs.RexExamples.{rex_end_declares}
 use Rattle.ck_chain.specs.Accepts.{built, RefusesSpec, too_long, Accepts}
-use Rattle.ck_chain.specs.Answers.{Misses, no_grammar, Makes, tokens, derive, AnswerOf, lacks, makes}
+use Rattle.ck_chain.specs.Answers.{Misses, no_grammar, no_grammar_of_tree, no_nodes, Makes, tokens, derive, tree, AnswerOf, lacks, makes}
+use Rattle.ck_chain.specs.AstAccepts.{without_grammar}
 use Rattle.ck_chain.specs.DeriveText.{derive_text}
 use Rattle.ck_chain.specs.Deriving.{Deriving}
 use Rattle.ck_chain.specs.GrammarAccepts.{absent, label_of, terminal_name}
@@ -30,8 +32,9 @@ use Rattle.ck_chain.specs.RexAccepts.{HaveTables}
 use Rattle.ck_chain.specs.Scanning.{Scanning}
 use Rattle.ck_chain.specs.TokenText.{token_line, tokens_text}
 use Rattle.ck_chain.specs.Tools.{Tools}
+use Rattle.ck_chain.specs.Treeing as treeing
 use Rattle.ck_chain.specs.declared.stage.Stage.{Stage}
-use Rattle.ck_chain.specs.declared.stage.Stage.TheVariants.{Tokens as of_tokens, Derive as of_derive}
+use Rattle.ck_chain.specs.declared.stage.Stage.TheVariants.{Tokens as of_tokens, Derive as of_derive, Tree as of_tree}
 
 -- the token `b` behind a line feed and a blank is printed `2:2 ID "b"`
 second_line : token_line (codes "IF" ∷ codes "ID" ∷ []) (codes "if" ++ 10 ∷ codes " b") (record { number = 1; from = 4; to = 5 })
@@ -115,11 +118,12 @@ all_are_built line found =
     by (suc i) p at = cc
 
 -- a specification without rules is accepted, and has no grammar
-pub accepts_none : Accepts rex_end_file (record { rules = rules_by []; grammar = None })
+pub accepts_none : Accepts rex_end_file (record { rules = rules_by []; grammar = None; nodes = None })
 accepts_none = record {
   fits = omega arith;
   rules = record { declares = rex_end_declares; tables = no_states };
   grammar = absent no_grammar_there;
+  nodes = without_grammar;
   all_built = all_are_built;
 }
 
@@ -127,8 +131,17 @@ accepts_none = record {
 pub tokens_need_none : (tools : Tools) → HasNo (Misses tools of_tokens)
 tokens_need_none tools section misses = elim misses [ ]
 
-pub derivation_needs_grammar : (rules : Rules) → Misses (record { rules = rules; grammar = None }) of_derive Lalr
+pub derivation_needs_grammar : (rules : Rules)
+    → Misses (record { rules = rules; grammar = None; nodes = None }) of_derive Lalr
 derivation_needs_grammar rules = no_grammar refl
+
+-- a tree needs a grammar first, then the nodes
+tree_needs_grammar : (rules : Rules) → Misses (record { rules = rules; grammar = None; nodes = None }) of_tree Lalr
+tree_needs_grammar rules = no_grammar_of_tree refl
+
+tree_needs_nodes : (rules : Rules) (g : NamedGrammar)
+    → Misses (record { rules = rules; grammar = Some g; nodes = None }) of_tree Ast
+tree_needs_nodes rules g = no_nodes g refl refl
 
 -- END is the terminal behind all tokens, and rules count from 1
 end_name : terminal_name (codes "X" ∷ codes "Y" ∷ []) 2 ≡ codes "END"
@@ -163,3 +176,11 @@ source_at_the_limit stage tools source size answers = by (refused refusal.Source
         made_too_long _ _ (derive g o given (Deriving.syntax_error ks e n at comes wrong)) is = cc
         made_too_long _ _ (derive g o given (Deriving.bad_token ks e at comes bad)) is = cc
         made_too_long _ _ (derive g o given (Deriving.derived ks place f comes d)) is = cc
+        made_too_long _ _ (tree g nodes o given given_nodes (treeing.wrong _ (Deriving.syntax_error ks e n at comes wrong))) is =
+            cc
+        made_too_long _ _ (tree g nodes o given given_nodes (treeing.wrong _ (Deriving.bad_token ks e at comes bad))) is =
+            cc
+        made_too_long _ _ (tree g nodes o given given_nodes (treeing.shown ks place f _ comes d (treeing.too_large more))) is =
+            cc
+        made_too_long _ _ (tree g nodes o given given_nodes (treeing.shown ks place f _ comes d (treeing.printed few))) is =
+            cc

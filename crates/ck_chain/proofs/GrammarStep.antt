@@ -1,7 +1,6 @@
 -- The section of a grammar of a file, if there is one, gives a grammar with a table, or is refused in one way.
-use Rattle.std.proofs.Common.{◌≡◌, ◌≢◌, ◌⊎◌, ℕ, Bool, true, false, inl, inr, List, Option, None, Some, refl, sym, ◌∙◌, ap, subst}
+use Rattle.std.proofs.Common.{◌≡◌, ◌≢◌, ℕ, Bool, true, false, List, Option, None, Some, refl, sym, ◌∙◌, ap, subst}
 use Rattle.ck_base.specs.Found.{HasNo}
-use Rattle.ck_base.specs.declared.fault.Kind.{Kind}
 use Rattle.ck_base.specs.declared.refusal.Refusal.{Refusal}
 use Rattle.ck_base.specs.declared.refusal.Refusal.TheVariants as refusal
 use Rattle.cfg_model.specs.Cfg.{IsGrammar}
@@ -10,12 +9,9 @@ use Rattle.cfg_model.specs.declared.refused.LalrError.{LalrError}
 use Rattle.cfg_model.specs.declared.refused.LalrError.TheVariants as lalr
 use Rattle.ell_tables.specs.declared.refusal.EllError.{EllError}
 use Rattle.ell_tables.specs.declared.refusal.EllError.TheVariants as ell
-use Rattle.ell_tables.specs.Promise as ll
 use Rattle.ell_tables.proofs.OneAnswer as ll_law
-use Rattle.lalr_tables.specs.Promise as lr
 use Rattle.lalr_tables.proofs.OneAnswer as lr_law
-use Rattle.spec_text.specs.Sections.{SectionLines}
-use Rattle.front_spec.specs.GrammarPromise.{HasGrammar, DeclaresGrammar}
+use Rattle.front_spec.specs.GrammarPromise.{DeclaresGrammar}
 use Rattle.front_spec.proofs.OneGrammar.{grammar_or_fault, one_grammar, one_grammar_fault, grammar_not_fault}
 use Rattle.ck_chain.specs.GrammarAccepts.{ell_refusal, lalr_refusal, HasTable, for_ll, for_lr, HasNoTable, no_ll, no_lr, GivesGrammar, absent, with_table, RefusesGrammar, faulty, no_table}
 use Rattle.ck_chain.proofs.InOrder.{IsStep}

@@ -1,12 +1,12 @@
 -- A source has tokens by tables that scan by its rules, and they lie in it.
-use Rattle.std.proofs.Common.{◌≡◌, ◌⊎◌, ℕ, zero, suc, ◌+◌, ◌-◌, ◌<◌, ◌≤◌, inl, inr, List, [], ◌∷◌, length, map, drop, take, All, Option, None, Some, IfSome, refl, sym, ap, ◌∙◌, subst, arith, length-drop, slice_get}
+use Rattle.std.proofs.Common.{◌≡◌, ◌⊎◌, ℕ, zero, suc, ◌+◌, ◌<◌, ◌≤◌, inl, inr, List, [], ◌∷◌, length, map, drop, take, All, Option, None, Some, refl, sym, ap, ◌∙◌, arith, slice_get}
 use Rattle.std.proofs.lemmas.Bool.{cases_lt}
 use Rattle.std.proofs.lemmas.List.Elements.{All-drop, All-cons, All-nil}
 use Rattle.rex_model.specs.Rules.{Rule, Rules}
 use Rattle.rex_model.specs.Run.{Token, Tokens}
 use Rattle.rex_model.specs.Run as run
-use Rattle.rex_model.specs.Runs.{Automaton, run as run_of, accepted, AreBytes, IsLongestRun, AcceptsNothing}
-use Rattle.rex_model.specs.Tables.{Tables, GivesWinners, IsCut, start_of}
+use Rattle.rex_model.specs.Runs.{Automaton, run as run_of, accepted, AreBytes, IsLongestRun}
+use Rattle.rex_model.specs.Tables.{Tables, GivesWinners, start_of}
 use Rattle.rex_model.specs.declared.tables.ScanAction.{ScanAction}
 use Rattle.rex_model.specs.Winner.{Winner, HasNoCandidate, next_state}
 use Rattle.parse_driver.specs.Stream.{Ending, finished, bad_at}

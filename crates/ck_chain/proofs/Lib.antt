@@ -1,4 +1,5 @@
 pub mod AcceptedOrRefused
+mod AstStep
 mod Derived
 mod Drawing
 mod Drawn
@@ -9,9 +10,11 @@ mod InOrder
 mod NextPlace
 pub mod OneAnswer
 mod OneDeriving
+mod OneTreeing
 mod PassedOn
 mod PrintedLine
 mod RefusedSpec
 mod RexStep
 mod ScannedRules
+mod Treed
 mod Walk

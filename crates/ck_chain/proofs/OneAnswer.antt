@@ -4,24 +4,28 @@ use Rattle.std.proofs.lemmas.Bool.{cases_lt}
 use Rattle.ck_base.specs.Found.{HasNo}
 use Rattle.ck_base.specs.declared.refusal.Refusal.TheVariants as refusal
 use Rattle.cfg_model.specs.declared.named.NamedGrammar.{NamedGrammar}
+use Rattle.node_spec.specs.Nodes.{Nodes}
 use Rattle.rex_model.specs.Place.{line_at, column_at}
 use Rattle.rex_model.specs.Run.{Token, Ending, finished, bad_at, Tokens}
 use Rattle.rex_model.specs.Rules.{Rules}
 use Rattle.rex_model.proofs.OneRun.{one_run}
 use Rattle.rex_model.proofs.SomeRun.{some_run}
 use Rattle.spec_text.specs.declared.section.Section.{Section}
-use Rattle.spec_text.specs.declared.section.Section.TheVariants.{Lalr}
+use Rattle.spec_text.specs.declared.section.Section.TheVariants.{Lalr, Ast}
 use Rattle.ck_chain.specs.Accepts.{Accepts}
-use Rattle.ck_chain.specs.Answers.{Misses, no_grammar, missing_refusal, Makes, tokens, derive, AnswerOf, lacks, too_long, makes}
+use Rattle.ck_chain.specs.Answers.{Misses, no_grammar, no_grammar_of_tree, no_nodes, missing_refusal, Makes, tokens, derive, tree, AnswerOf, lacks, too_long, makes}
 use Rattle.ck_chain.specs.Deriving.{Deriving}
 use Rattle.ck_chain.specs.GrammarAccepts.{HasTable, GivesGrammar, absent, with_table}
 use Rattle.ck_chain.specs.Outcome.{Outcome, output, refused}
 use Rattle.ck_chain.specs.Scanning.{Scanning, bad_token, printed}
 use Rattle.ck_chain.specs.TokenText.{tokens_text}
 use Rattle.ck_chain.specs.Tools.{Tools}
+use Rattle.ck_chain.specs.Treeing as treeing
+use Rattle.ck_chain.specs.Treeing.{Treeing}
 use Rattle.ck_chain.specs.declared.stage.Stage.{Stage}
 use Rattle.ck_chain.specs.declared.stage.Stage.TheVariants as stages
 use Rattle.ck_chain.proofs.OneDeriving.{one_deriving, some_deriving}
+use Rattle.ck_chain.proofs.OneTreeing.{one_treeing, some_treeing}
 
 -- scanning a source has one answer
 one_scanning : (rules : Rules) (source : List ℕ) (o p : Outcome) → Scanning rules source o → Scanning rules source p → o ≡ p
@@ -51,9 +55,16 @@ has_table : (spec : List ℕ) (toks : List (List ℕ)) (found : Option NamedGram
 has_table spec toks _ g is (absent none) = cc
 has_table spec toks _ g is (with_table h declares has) = let same : h ≡ g = cc in subst HasTable same has
 
+some_same : {A : Type 0} (a b : A) → Some a ≡ Some b → a ≡ b
+some_same a b same = cc
+
 -- a stage misses one section first
 pub one_missing : (tools : Tools) (stage : Stage) (a b : Section) → Misses tools stage a → Misses tools stage b → a ≡ b
 one_missing tools _ _ _ (no_grammar is) (no_grammar is2) = refl
+one_missing tools _ _ _ (no_grammar_of_tree is) (no_grammar_of_tree is2) = refl
+one_missing tools _ _ _ (no_grammar_of_tree is) (no_nodes g is2 none) = let same = sym is ∙ is2 in cc
+one_missing tools _ _ _ (no_nodes g is none) (no_grammar_of_tree is2) = let same = sym is ∙ is2 in cc
+one_missing tools _ _ _ (no_nodes g is none) (no_nodes h is2 none2) = refl
 
 -- no answer of a stage is Usage
 scanning_no_usage : (rules : Rules) (source : List ℕ) (o : Outcome) → Scanning rules source o → o ≡ refused refusal.Usage → ⊥
@@ -65,10 +76,20 @@ deriving_no_usage rules g source _ (Deriving.syntax_error ks e k at comes wrong)
 deriving_no_usage rules g source _ (Deriving.bad_token ks e at comes bad) is = cc
 deriving_no_usage rules g source _ (Deriving.derived ks place f comes d) is = cc
 
+treeing_no_usage : (rules : Rules) (g : NamedGrammar) (nodes : Nodes) (source : List ℕ) (o : Outcome)
+    → Treeing rules g nodes source o
+    → o ≡ refused refusal.Usage → ⊥
+treeing_no_usage rules g nodes source _ (treeing.wrong r derives) is =
+    deriving_no_usage rules g source (refused r) derives is
+treeing_no_usage rules g nodes source _ (treeing.shown ks place f _ comes d (treeing.too_large more)) is = cc
+treeing_no_usage rules g nodes source _ (treeing.shown ks place f _ comes d (treeing.printed few)) is = cc
+
 -- one case for each stage
 makes_no_usage : (tools : Tools) (source : List ℕ) (stage : Stage) (o : Outcome) → Makes tools source stage o → o ≡ refused refusal.Usage → ⊥
 makes_no_usage tools source _ _ (tokens o scans) is = scanning_no_usage tools.rules source o scans is
 makes_no_usage tools source _ _ (derive g o given derives) is = deriving_no_usage tools.rules g source o derives is
+makes_no_usage tools source _ _ (tree g nodes o given given_nodes builds) is =
+    treeing_no_usage tools.rules g nodes source o builds is
 
 pub never_usage : (stage : Stage) (tools : Tools) (source : List ℕ) → AnswerOf stage tools source (refused refusal.Usage) → ⊥
 never_usage stage tools source answers = by (refused refusal.Usage) answers refl
@@ -86,9 +107,13 @@ module _ (spec : List ℕ) (tools : Tools) (accepts : Accepts spec tools) (sourc
       let same : h ≡ g = some_same h g (sym given2 ∙ given) in
       one_deriving tools.rules g (has_table spec tools.rules.tokens tools.grammar g given accepts.grammar) source o p derives
       (subst (λ x. Deriving tools.rules x source p) same derives2)
-    where
-      some_same : (a b : NamedGrammar) → Some a ≡ Some b → a ≡ b
-      some_same a b same = cc
+  one_making _ _ _ (tree g nodes o given given_nodes builds) (tree h others p given2 given_others builds2) =
+      let same : h ≡ g = some_same h g (sym given2 ∙ given) in
+      let same_nodes : others ≡ nodes = some_same others nodes (sym given_others ∙ given_nodes) in
+      one_treeing tools.rules g
+      (has_table spec tools.rules.tokens tools.grammar g given accepts.grammar) nodes source o p builds
+      (subst (λ x. Treeing tools.rules g x source p) same_nodes (subst
+      (λ x. Treeing tools.rules x others source p) same builds2))
 
   pub one_answer : (stage : Stage) (o p : Outcome) → AnswerOf stage tools source o → AnswerOf stage tools source p → o ≡ p
   one_answer stage _ _ (lacks a misses) (lacks b misses2) =
@@ -111,6 +136,14 @@ module _ (spec : List ℕ) (tools : Tools) (accepts : Accepts spec tools) (sourc
       by None is = none Lalr (no_grammar is)
       by (Some g) is = some_deriving tools.rules g (has_table spec tools.rules.tokens tools.grammar g is accepts.grammar) source
           (λ o derives. no_answer o (derive g o is derives))
+  some_making stages.Tree none no_answer = by tools.grammar tools.nodes refl refl
+    where
+      by : (found : Option NamedGrammar) (nodes : Option Nodes) → tools.grammar ≡ found → tools.nodes ≡ nodes → ⊥
+      by None nodes is is_nodes = none Lalr (no_grammar_of_tree is)
+      by (Some g) None is is_nodes = none Ast (no_nodes g is is_nodes)
+      by (Some g) (Some nodes) is is_nodes =
+          some_treeing tools.rules g (has_table spec tools.rules.tokens tools.grammar g is accepts.grammar) nodes source
+          (λ o builds. no_answer o (tree g nodes o is is_nodes builds))
 
   pub some_answer : (stage : Stage) → HasNo (AnswerOf stage tools source) → ⊥
   some_answer stage no_answer = elim (cases_lt 4194304 (length source)) [

@@ -1,5 +1,5 @@
 -- Deriving a source by a grammar with a table has one answer: not two, and it can't be that there is none.
-use Rattle.std.proofs.Common.{◌≡◌, ℕ, ◌+◌, ◌<◌, ◌≤◌, inl, inr, List, [], ◌∷◌, ◌++◌, length, map, refl, sym, ap, ap₂, ◌∙◌, subst, append_assoc, arith}
+use Rattle.std.proofs.Common.{◌≡◌, ℕ, ◌+◌, ◌<◌, inl, inr, List, [], ◌∷◌, ◌++◌, length, map, refl, sym, ap, ap₂, ◌∙◌, subst, append_assoc, arith}
 use Rattle.std.proofs.lemmas.Bool.{cases_lt}
 use Rattle.std.proofs.lemmas.List.{append-nil}
 use Rattle.ck_base.specs.Found.{HasNo}
@@ -28,7 +28,8 @@ use Rattle.ck_chain.specs.GrammarAccepts.{HasTable, for_ll, for_lr}
 use Rattle.ck_chain.specs.Outcome.{Outcome, output, refused}
 
 -- the tokens of a source and their ending are determined
-one_stream : (rules : List Rule) (source : List ℕ) (ks ls : List TokenRef) (e f : Ending) → Comes rules source 0 0 ks e → Comes rules source 0 0 ls f
+pub one_stream : (rules : List Rule) (source : List ℕ) (ks ls : List TokenRef) (e f : Ending)
+    → Comes rules source 0 0 ks e → Comes rules source 0 0 ls f
     → (ks ≡ ls) × (e ≡ f)
 one_stream rules source ks ls e f a b =
     let (tokens, endings) = one_run rules source 0 0 a.scanned b.scanned a.ended b.ended a.run b.run in
@@ -102,7 +103,8 @@ module _ (g : Cfg) where
       none_wrong tokens a c t are wrong (sentence_viable (terminals_of tokens) (plain_sentence g tokens f d))
   wrong_not_derived tokens ending _ _ f (the_end at ended viable none) d = none (plain_sentence g tokens f d)
 
-one_forest : (g : NamedGrammar) → HasTable g → (tokens : List TokenRef) (f h : Forest TokenRef) → Derivation terminal_of g.grammar tokens f
+pub one_forest : (g : NamedGrammar) → HasTable g → (tokens : List TokenRef) (f h : Forest TokenRef)
+    → Derivation terminal_of g.grammar tokens f
     → Derivation terminal_of g.grammar tokens h → f ≡ h
 one_forest g (for_ll is has) tokens f h a b = ll.one_derivation g.grammar has.no_conflict tokens f h a b
 one_forest g (for_lr is has) tokens f h a b = lr.one_derivation g.grammar has.accepted.no_conflict tokens f h a b

@@ -1,5 +1,6 @@
 pub mod Accepts
 pub mod Answers
+pub mod AstAccepts
 pub mod DeriveText
 pub mod Deriving
 pub mod GrammarAccepts
@@ -9,4 +10,5 @@ pub mod RexAccepts
 pub mod Scanning
 pub mod TokenText
 pub mod Tools
+pub mod Treeing
 pub mod within

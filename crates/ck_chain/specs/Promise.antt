@@ -1,5 +1,5 @@
 -- What `accept` and `meaning` give.
-use Rattle.std.specs.Prelude.{◌≡◌, ℕ, true, false, length, Option, Some, None, Vec, Result, Ok, Err}
+use Rattle.std.specs.Prelude.{◌≡◌, ℕ, true, false, List, [], length, Option, Some, None, option_map, Vec, Result, Ok, Err}
 use Rattle.std.specs.Global.{Global}
 use Rattle.ck_base.specs.declared.refusal.Refusal.{Refusal}
 use Rattle.cfg_model.specs.declared.named.NamedGrammar.{NamedGrammar}
@@ -7,6 +7,8 @@ use Rattle.rex_model.specs.RuleMeaning.{rules_of}
 use Rattle.rex_model.specs.TableMeaning.{tables_of}
 use Rattle.ell_tables.specs.Promise as ll
 use Rattle.lalr_tables.specs.Promise as lr
+use Rattle.node_spec.specs.Nodes.{FitGrammar, nodes_of}
+use Rattle.node_spec.specs.declared.nodes.NodeSpec.{NodeSpec}
 use Rattle.ck_chain.specs.Outcome.{Outcome, output, refused}
 use Rattle.ck_chain.specs.Tools.{Tools}
 use Rattle.ck_chain.specs.within.Scanners.{NameTokens, ScansBy}
@@ -16,9 +18,13 @@ use Rattle.ck_chain.specs.declared.toolset.Parser.{Parser}
 use Rattle.ck_chain.specs.declared.toolset.Parser.TheVariants as parser
 use Rattle.ck_chain.specs.declared.toolset.Toolset.{Toolset}
 
--- what the program's tools declare
+-- what the program's tools declare; the expressions of nodes have the texts of their strings, and none of a source
 abbrev pub tools_of : Toolset → Tools
-tools_of tools = record { rules = rules_of tools.rules; grammar = tools.grammar }
+tools_of tools = record {
+  rules = rules_of tools.rules;
+  grammar = tools.grammar;
+  nodes = option_map (nodes_of [] tools.literals) tools.nodes;
+}
 
 -- the parser is one of the grammar, by its kind; Nothing where there is no grammar
 abbrev pub IsParserOf : Option NamedGrammar → Parser → Type 0
@@ -34,13 +40,25 @@ abbrev pub IsNamed : ℕ → Option NamedGrammar → Type 0
 IsNamed count None = Unit {0}
 IsNamed count (Some g) = (g.grammar.terminals ≡ count) × (length g.labels ≡ length g.grammar.rules)
 
+-- whatever the source is, the nodes are the same, and fit the grammar
+pub record AreNodesFor (g : NamedGrammar) (literals : List ℕ) (nodes : NodeSpec) : Type 0 where
+  pub same : (source : List ℕ) → nodes_of source literals nodes ≡ nodes_of [] literals nodes
+  pub fit : (source : List ℕ) → FitGrammar g.grammar (nodes_of source literals nodes)
+
+-- nodes that are there with a grammar are such
+abbrev pub AreNodesIf : Option NamedGrammar → List ℕ → Option NodeSpec → Type 0
+AreNodesIf None literals nodes = Unit {0}
+AreNodesIf (Some g) literals None = Unit {0}
+AreNodesIf (Some g) literals (Some nodes) = AreNodesFor g literals nodes
+
 -- the tools are as `accept` gives them: the tables scan by the rules, whose tokens have names; the parser is
--- one of the grammar, whose terminals are the tokens
+-- one of the grammar, whose terminals are the tokens; the nodes fit the grammar
 pub record AreTools (tools : Toolset) : Type 0 where
   pub scans : ScansBy (rules_of tools.rules) (tables_of tools.scan)
   pub token_names : NameTokens tools.rules
   pub parses : IsParserOf tools.grammar tools.parser
   pub grammar_names : IsNamed (length tools.rules.tokens) tools.grammar
+  pub nodes_fit : AreNodesIf tools.grammar tools.literals tools.nodes
 
 -- it is a refusal of which P holds, or want of memory
 abbrev pub Refuses : (Refusal → Type 0) → Refused → Type 0

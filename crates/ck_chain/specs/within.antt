@@ -5,3 +5,4 @@ pub mod Refusing
 pub mod Scanners
 pub mod Steps
 pub mod Streams
+pub mod Trees

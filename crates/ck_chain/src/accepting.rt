@@ -4,7 +4,7 @@ ghost use Rattle.spec_text.specs.Sections.{SectionLines};
 ghost use Rattle.front_spec.specs.GrammarPromise.{HasGrammar, IsGrammarFault};
 ghost use Rattle.ck_chain.specs.Accepts.{Accepts, RefusesSpec};
 ghost use Rattle.ck_chain.specs.Promise.{AreTools, Refuses, tools_of};
-ghost use Rattle.ck_chain.specs.within.Grammars.{IsFound};
+ghost use Rattle.ck_chain.specs.within.Grammars.{AreFound, IsFaultOfNodes, IsFound};
 ghost use Rattle.ck_chain.specs.within.Refusing.{refused_of_tables};
 ghost use Rattle.ck_chain.specs.within.Scanners.{CountsRules};
 
@@ -15,10 +15,12 @@ use bumpalo::Bump;
 use cfg_model::NamedGrammar;
 use ck_base::{Kind, Refusal, SpecFault};
 use front_spec::{read_grammar, read_rex};
+use node_spec::{NodeSpec, read_ast};
 use rex_dfa::{DfaError, build};
 use rex_model::ScanRules;
 use spec_text::{Section, Sections, first_other, section_of, sections};
 use std::alloc::Global;
+use value_store::Literals;
 
 /// What a specification of at most 1,048,576 bytes declares, with its tables, or its first refusal.
 /// Expressions lie in the arena.
@@ -29,6 +31,7 @@ use std::alloc::Global;
 /// its tables       after it no rule matches the empty word, and states are at most 4,096
 /// LALR or ELL      after it the grammar over the tokens is known, with numbers in range
 /// its table        after it no terminal has two actions
+/// AST              after it the nodes are known, and fit the grammar
 /// others           a section that isn't built is a fault of its head's line
 /// ```
 pub fn accept<'a>(
@@ -49,7 +52,10 @@ pub fn accept<'a>(
     };
     let grammar = grammar_of(alloc, spec, &all, &rules)?;
     let parser = parser_of(alloc, &rules.tokens, &grammar)?;
-    if let Some(line) = first_other(&all, &[Section::Rex, Section::Lalr, Section::Ell]) {
+    let mut literals = Literals::new(alloc);
+    let nodes = declared_nodes(alloc, arena, spec, &all, &grammar, &mut literals)?;
+    let built = [Section::Rex, Section::Lalr, Section::Ell, Section::Ast];
+    if let Some(line) = first_other(&all, &built) {
         return Err(Refused::Refusal(Refusal::BadSpec {
             line,
             kind: Kind::Syntax,
@@ -60,6 +66,8 @@ pub fn accept<'a>(
         scan,
         grammar,
         parser,
+        nodes,
+        literals,
     })
 }
 
@@ -92,6 +100,34 @@ fn grammar_of(
         Ok(Some(g))
     } else {
         Ok(None)
+    }
+}
+
+/// What the section AST declares for the grammar; `None` where the specification has none. The strings
+/// of its expressions are put into the literals.
+fn declared_nodes<'a>(
+    alloc: Global,
+    arena: &'a Bump<Global>,
+    spec: &[u8],
+    all: &Sections,
+    grammar: &Option<NamedGrammar>,
+    literals: &mut Literals,
+) -> Result<Option<NodeSpec<'a>>, SpecFault>
+    requires size { length spec.now ≤ 1048576 }
+    requires read { AreSectionsOf spec.now all.now }
+    requires grammar { (tokens : List (List ℕ)) × IsFound spec.now tokens grammar.now }
+    ensures found { IfOk result (AreFound spec.now literals.new grammar.now) }
+    ensures fault { IfErr result (IsFaultOfNodes spec.now grammar.now) }
+{
+    match grammar {
+        None => Ok(None),
+        Some(g) => match section_of(all, Section::Ast) {
+            Some(_) => {
+                let nodes = read_ast(alloc, arena, spec, all, g, literals)?;
+                Ok(Some(nodes))
+            }
+            None => Ok(None),
+        },
     }
 }
 

@@ -6,6 +6,7 @@ ghost use Rattle.ck_chain.specs.Promise.{AreTools, Refuses, answer_in, tools_of}
 use crate::derivation::derivation_text;
 use crate::naming::section_name;
 use crate::refused::Refused;
+use crate::source_tree::printed_tree;
 use crate::stage::Stage;
 use crate::token_text::tokens_text;
 use crate::toolset::Toolset;
@@ -53,11 +54,14 @@ fn make(alloc: Global, tools: &Toolset<'_>, source: &[u8], stage: Stage) -> Resu
     requires small { length source.now + 1 < 2 ^ 32 }
     ensures { IfSome (answer_in result) (Makes (tools_of tools.now) source.now stage) }
 {
-    match (stage, &tools.grammar) {
-        (Stage::Tokens, _) => tokens_text(alloc, &tools.rules, &tools.scan, source),
-        (Stage::Derive, Some(g)) => {
+    match (stage, &tools.grammar, &tools.nodes) {
+        (Stage::Tokens, _, _) => tokens_text(alloc, &tools.rules, &tools.scan, source),
+        (Stage::Derive, Some(g), _) => {
             derivation_text(alloc, &tools.rules, &tools.scan, g, &tools.parser, source)
         }
-        (Stage::Derive, None) => unreachable!(),
+        (Stage::Tree, Some(g), Some(nodes)) => printed_tree(alloc, tools, g, nodes, source),
+        (Stage::Derive, None, _) => unreachable!(),
+        (Stage::Tree, None, _) => unreachable!(),
+        (Stage::Tree, Some(_), None) => unreachable!(),
     }
 }

@@ -48,7 +48,7 @@ pub(crate) fn derivation_text(
 }
 
 /// The refusal for a wrong place of the source, by its line and its column.
-fn wrong_place(source: &[u8], error: ParseError) -> Refused
+pub(crate) fn wrong_place(source: &[u8], error: ParseError) -> Refused
     requires place { IsPlaceIn source.now error }
     requires small { length source.now + 1 < 2 ^ 32 }
     ensures { result ≡ refused_at source.now error }
@@ -73,12 +73,12 @@ fn wrong_place(source: &[u8], error: ParseError) -> Refused
 }
 
 /// The source's numbers are bytes.
-fn known_bytes(source: &[u8])
+pub(crate) fn known_bytes(source: &[u8])
     ensures { AreBytes source.now }
 {}
 
 /// The steps of the derivation of the source's tokens, or why they have none.
-fn steps_of(
+pub(crate) fn steps_of(
     alloc: Global,
     rules: &ScanRules<'_>,
     scan: &ScanTables,

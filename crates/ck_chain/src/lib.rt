@@ -2,12 +2,13 @@
 //!
 //! | what | file |
 //! |---|---|
-//! | which specifications are accepted, and why another one is refused | `specs/Accepts.antt`, `specs/RexAccepts.antt`, `specs/GrammarAccepts.antt` |
+//! | which specifications are accepted, and why another one is refused | `specs/Accepts.antt`, `specs/RexAccepts.antt`, `specs/GrammarAccepts.antt`, `specs/AstAccepts.antt` |
 //! | the tools of an accepted one, reader by reader | `src/accepting.rt`, `src/toolset.rt`; `specs/Tools.antt`, `specs/Promise.antt` |
 //! | a grammar's parser, or its refusal with its names | `src/parser.rt`, `src/naming.rt` |
 //! | what a stage makes of a source, or the first refusal | `src/answering.rt`, `src/stage.rt`; `specs/Answers.antt` |
 //! | its tokens as text | `src/token_text.rt`; `specs/Scanning.antt`, `specs/TokenText.antt` |
 //! | their derivation as text | `src/derivation.rt`, `src/derive_text.rt`; `specs/Deriving.antt`, `specs/DeriveText.antt` |
+//! | their tree as text | `src/source_tree.rt`; `specs/Treeing.antt` |
 //! | its tokens as a stream | `src/source_tokens.rt`; `specs/within/Streams.antt`, `proofs/Drawing.antt`, `proofs/HasRun.antt` |
 //! | line and column of a place | `src/place.rt` |
 //! | words of contracts within the crate | `specs/within.antt` |
@@ -24,6 +25,7 @@ mod parser;
 mod place;
 mod refused;
 mod source_tokens;
+mod source_tree;
 mod stage;
 mod token_text;
 mod toolset;

@@ -5,4 +5,6 @@ pub enum Stage {
     Tokens,
     /// The derivation of its tokens by the grammar, as the steps of a parser.
     Derive,
+    /// The tree that the rules of its derivation build, a line a node.
+    Tree,
 }

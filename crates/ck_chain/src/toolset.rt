@@ -7,8 +7,10 @@ use crate::stage::Stage;
 use cfg_model::NamedGrammar;
 use ell_tables::PlainLl;
 use lalr_tables::PlainLr;
+use node_spec::NodeSpec;
 use rex_model::{ScanRules, ScanTables};
 use spec_text::Section;
+use value_store::Literals;
 
 /// The parser of a grammar.
 #[derive(Drop)]
@@ -29,6 +31,10 @@ pub struct Toolset<'a> {
     /// That of the section LALR or ELL; `None` where the specification has neither.
     pub grammar: Option<NamedGrammar>,
     pub parser: Parser,
+    /// Those of the section AST; `None` where the specification has none.
+    pub nodes: Option<NodeSpec<'a>>,
+    /// The texts of the strings in their expressions.
+    pub literals: Literals,
 }
 
 impl<'a> Toolset<'a> {
@@ -36,8 +42,10 @@ impl<'a> Toolset<'a> {
     pub fn missing(&self, stage: Stage) -> Option<Section>
         ensures { Finds (λ section. section) (Misses (tools_of self.now) stage) result }
     {
-        match (stage, &self.grammar) {
-            (Stage::Derive, None) => Some(Section::Lalr),
+        match (stage, &self.grammar, &self.nodes) {
+            (Stage::Derive, None, _) => Some(Section::Lalr),
+            (Stage::Tree, None, _) => Some(Section::Lalr),
+            (Stage::Tree, Some(_), None) => Some(Section::Ast),
             _ => None,
         }
     }

@@ -1,6 +1,6 @@
 -- Words of a command line, tried on cases that are worked by hand.
 use Rattle.std.proofs.Common.{◌≡◌, [], ◌∷◌, codes, refl}
-use Rattle.ck_chain.specs.declared.stage.Stage.TheVariants.{Tokens, Derive}
+use Rattle.ck_chain.specs.declared.stage.Stage.TheVariants.{Tokens, Derive, Tree}
 use Rattle.ck_tool.specs.Words.{AreRight, of_stage}
 
 -- the words `tokens s x` are right
@@ -30,3 +30,4 @@ empty_name (of_stage stage spec source are) =
 other_command : AreRight (codes "run" ∷ codes "s" ∷ codes "x" ∷ []) → ⊥
 other_command (of_stage Tokens spec source are) = let words = are.words_are in cc
 other_command (of_stage Derive spec source are) = let words = are.words_are in cc
+other_command (of_stage Tree spec source are) = let words = are.words_are in cc

@@ -17,6 +17,11 @@ one_stage stages.Tokens stages.Tokens same = refl
 one_stage stages.Tokens stages.Derive same = absurd (omega (arith, ap (λ l. get_or l 0 0) same))
 one_stage stages.Derive stages.Tokens same = absurd (omega (arith, ap (λ l. get_or l 0 0) same))
 one_stage stages.Derive stages.Derive same = refl
+one_stage stages.Tokens stages.Tree same = absurd (omega (arith, ap (λ l. get_or l 1 0) same))
+one_stage stages.Tree stages.Tokens same = absurd (omega (arith, ap (λ l. get_or l 1 0) same))
+one_stage stages.Derive stages.Tree same = absurd (omega (arith, ap (λ l. get_or l 0 0) same))
+one_stage stages.Tree stages.Derive same = absurd (omega (arith, ap (λ l. get_or l 0 0) same))
+one_stage stages.Tree stages.Tree same = refl
 
 -- the words ask for one stage
 pub same_stage : (words : List (List ℕ)) (s t : Stage) (spec source spec2 source2 : List ℕ) → AreOfStage words s spec source

@@ -1,12 +1,13 @@
 -- Which words of a command line are right, and what they ask for.
 use Rattle.std.specs.Prelude.{◌≡◌, ◌≢◌, ℕ, List, [], ◌∷◌, codes}
 use Rattle.ck_chain.specs.declared.stage.Stage.{Stage}
-use Rattle.ck_chain.specs.declared.stage.Stage.TheVariants.{Tokens, Derive}
+use Rattle.ck_chain.specs.declared.stage.Stage.TheVariants.{Tokens, Derive, Tree}
 
 -- the command that asks for the stage
 abbrev pub name_of : Stage → List ℕ
 name_of Tokens = codes "tokens"
 name_of Derive = codes "derive"
+name_of Tree = codes "tree"
 
 -- a file's name: not empty, and not beginning with `-`
 abbrev pub IsFileName : List ℕ → Type 0

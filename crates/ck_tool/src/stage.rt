@@ -11,6 +11,7 @@ pub(crate) fn stage_of(command: &str) -> Option<Stage>
     match command {
         "tokens" => Some(Stage::Tokens),
         "derive" => Some(Stage::Derive),
+        "tree" => Some(Stage::Tree),
         _ => None,
     }
 }

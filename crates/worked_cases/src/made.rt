@@ -10,9 +10,45 @@ const SPEC_LIMIT: usize = 1_048_576;
 /// A source has at most this many bytes.
 const SOURCE_LIMIT: usize = 4_194_304;
 
+/// A list of `x` that isn't empty. Its tree has a node for each.
+const LIST: &[u8] = b"REX
+RULE \"x\" : TOKEN X
+LALR
+RULE one : L = X
+RULE more : L = L X
+AST
+FAMILY L
+TYPE One : L ()
+TYPE More : L (init: L)
+BUILD one = One()
+BUILD more = More($1)
+END
+";
+/// The same, of which a tree of one node drops the list.
+const DROPPED: &[u8] = b"REX
+RULE \"x\" : TOKEN X
+LALR
+RULE top : Top = L
+RULE one : L = X
+RULE more : L = L X
+AST
+FAMILY Top
+TYPE Leaf : Top ()
+FAMILY L
+TYPE One : L ()
+TYPE More : L (init: L)
+BUILD top = Leaf()
+BUILD one = One()
+BUILD more = More($1)
+END
+";
+/// A tree has at most this many nodes.
+const TREE_LIMIT: usize = 1_048_576;
+
 /// Judges the cases that are made.
 pub(crate) fn judge_all(rt: &HostRuntime, tally: &mut Tally) -> Result<()> {
     judge_limits(rt, tally)?;
+    judge_trees(rt, tally)?;
     judge_prefixes(rt, tally)?;
     judge_reads(rt, tally)
 }
@@ -39,9 +75,51 @@ fn judge_limits(rt: &HostRuntime, tally: &mut Tally) -> Result<()> {
             err: Vec::from_slice(alloc, err.as_bytes())?,
             status,
         };
-        judge(rt, &case_of(alloc, name, spec, source, wanted)?, tally)?;
+        let case = case_of(alloc, "tokens", name, spec, source, wanted)?;
+        judge(rt, &case, tally)?;
     }
     Ok(())
+}
+
+/// Judges trees of the greatest number of nodes and of one more, which is refused unless it is dropped.
+fn judge_trees(rt: &HostRuntime, tally: &mut Tally) -> Result<()> {
+    let too_large = "source: tree of more than 1048576 nodes\n";
+    for (spec, nodes, err, status) in [
+        (LIST, TREE_LIMIT, "", 0),
+        (LIST, TREE_LIMIT + 1, too_large, 3),
+        (DROPPED, TREE_LIMIT + 1, "", 0),
+    ] {
+        let alloc = rt.alloc();
+        let name = format!(in alloc; "list of {nodes} nodes, status {status}")?;
+        let out = match (status, spec == LIST) {
+            (0, true) => lines_of_list(alloc, nodes)?,
+            (0, false) => Vec::from_slice(alloc, b"0 Leaf\n")?,
+            _ => Vec::new(alloc),
+        };
+        let wanted = Wanted {
+            out,
+            err: Vec::from_slice(alloc, err.as_bytes())?,
+            status,
+        };
+        let spec = Vec::from_slice(alloc, spec)?;
+        let source = padded(alloc, b"", b'x', nodes)?;
+        let mut case = case_of(alloc, "tree", name, spec, source, wanted)?;
+        case.devices.out.per_call = 65_536;
+        judge(rt, &case, tally)?;
+    }
+    Ok(())
+}
+
+/// The lines of the tree of a list with so many nodes.
+fn lines_of_list(alloc: Global, nodes: usize) -> Result<Vec<u8>, AllocError> {
+    let mut lines = Vec::new(alloc);
+    for depth in 0..nodes {
+        let last = depth == nodes - 1;
+        let name = if last { "One" } else { "More" };
+        let line = format!(in alloc; "{depth} {name}\n")?;
+        lines.extend_from_slice(line.as_bytes())?;
+    }
+    Ok(lines)
 }
 
 /// Judges each proper prefix of the specification: its first line isn't `REX` yet, or `END` isn't
@@ -72,7 +150,7 @@ fn judge_prefixes(rt: &HostRuntime, tally: &mut Tally) -> Result<()> {
         let spec = Vec::from_slice(alloc, prefix)?;
         judge(
             rt,
-            &case_of(alloc, name, spec, Vec::new(alloc), wanted)?,
+            &case_of(alloc, "tokens", name, spec, Vec::new(alloc), wanted)?,
             tally,
         )?;
     }
@@ -95,7 +173,7 @@ fn judge_reads(rt: &HostRuntime, tally: &mut Tally) -> Result<()> {
         };
         let spec = Vec::from_slice(alloc, SPEC)?;
         let source = padded(alloc, b"", b' ', 20_000)?;
-        let mut case = case_of(alloc, name, spec, source, wanted)?;
+        let mut case = case_of(alloc, "tokens", name, spec, source, wanted)?;
         case.devices.failing_read = failing;
         judge(rt, &case, tally)?;
     }
@@ -112,16 +190,17 @@ fn lines_in(bytes: &[u8]) -> usize {
     }
 }
 
-/// The case of `tokens s x` over these two files.
+/// The case of the command with `s` and `x` over these two files.
 fn case_of(
     alloc: Global,
+    command: &str,
     name: String,
     spec: Vec<u8>,
     source: Vec<u8>,
     wanted: Wanted,
 ) -> Result<Case, AllocError> {
     let mut case = Case::new(alloc, name);
-    for word in ["tokens", "s", "x"] {
+    for word in [command, "s", "x"] {
         case.words.push(String::from_str(alloc, word)?)?;
     }
     for (name, bytes) in [("s", spec), ("x", source)] {

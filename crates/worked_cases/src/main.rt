@@ -26,10 +26,11 @@ use judging::{Tally, judge};
 use std::fs;
 
 /// The files of cases.
-const FILES: [&str; 8] = [
+const FILES: [&str; 9] = [
     "examples.txt",
     "tokens.txt",
     "derive.txt",
+    "tree.txt",
     "specifications.txt",
     "notation.txt",
     "scanning.txt",

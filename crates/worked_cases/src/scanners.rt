@@ -18,13 +18,14 @@ use std::fs;
 const SPEC_LIMIT: usize = 1_048_576;
 
 /// The examples whose sources are scanned in both ways: specification and source.
-const EXAMPLES: [(&str, &str); 6] = [
+const EXAMPLES: [(&str, &str); 7] = [
     ("examples/01-tokens/SPEC", "examples/01-tokens/SOURCE"),
     ("examples/02-states/SPEC", "examples/02-states/SOURCE"),
     ("examples/03-contexts/SPEC", "examples/03-contexts/SOURCE"),
     ("examples/04-ll/SPEC", "examples/04-ll/SOURCE"),
     ("examples/05-lalr/SPEC", "examples/05-lalr/SOURCE"),
     ("examples/06-json/SPEC", "examples/06-json/SOURCE"),
+    ("examples/07-trees/SPEC", "examples/07-trees/SOURCE"),
 ];
 
 /// Tries that the plain scanner and the one by tables answer the same, at each place of each example

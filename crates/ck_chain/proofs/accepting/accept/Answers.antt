@@ -1,9 +1,7 @@
 -- Each reader gives the next one its input, or the refusal.
 use Rattle.std.proofs.Common.{rules}
-use Rattle.ck_chain.specs.Accepts.{unbuilt}
-use Rattle.ck_chain.specs.Promise.{tools_of}
 use Rattle.ck_chain.specs.RexAccepts.{GivesRules, HaveTables}
-use Rattle.ck_chain.proofs.RefusedSpec.{refused_of_sections, refused_of_rex, refused_without_tables, refused_of_grammar, refused_without_table, gives_grammar, found_in_range, found_named, counted}
+use Rattle.ck_chain.proofs.RefusedSpec.{refused_of_sections, refused_of_rex, refused_without_tables, refused_of_grammar, refused_without_table, refused_of_ast, refused_unbuilt, gives_grammar, gives_nodes, nodes_if, found_in_range, found_named, counted}
 use Rattle.ck_chain.proofs.PassedOn.{passed_on}
 use Rattle.ck_chain.proofs.ScannedRules.{have_names}
 use Rattle.rex_model.specs.RuleMeaning.{rules_of}
@@ -28,7 +26,8 @@ pub returns-in_err-grammar-clause-refuses : goal.returns-in_err-grammar-clause-r
 returns-in_err-grammar-clause-refuses c =
     let have : HaveTables (rules_of c.in_ok-rules.rules) =
     record { bodies = c.in-Ok.ensures.bodies; scanner = c.in-Ok.ensures.scanner; splits = c.in-Ok.ensures.splits } in
-    let gives : GivesRules c.args.spec.now (rules_of c.in_ok-rules.rules) = record { declares = c.in_ok-rules.ensures.rules; tables = have } in
+    let gives : GivesRules c.args.spec.now (rules_of c.in_ok-rules.rules) =
+    record { declares = c.in_ok-rules.ensures.rules; tables = have } in
     passed_on _ _ _ c.from_residual-in_err-grammar.ensures.1 (refused_of_grammar _ c.requires _ gives _ c.in_err-grammar.ensures.fault)
 
 pub parser_of-requires : goal.parser_of-requires
@@ -38,17 +37,34 @@ pub returns-in_err-parser-clause-refuses : goal.returns-in_err-parser-clause-ref
 returns-in_err-parser-clause-refuses c =
     let have : HaveTables (rules_of c.in_ok-rules.rules) =
     record { bodies = c.in-Ok.ensures.bodies; scanner = c.in-Ok.ensures.scanner; splits = c.in-Ok.ensures.splits } in
-    let gives : GivesRules c.args.spec.now (rules_of c.in_ok-rules.rules) = record { declares = c.in_ok-rules.ensures.rules; tables = have } in
+    let gives : GivesRules c.args.spec.now (rules_of c.in_ok-rules.rules) =
+    record { declares = c.in_ok-rules.ensures.rules; tables = have } in
     passed_on _ _ _ c.from_residual-in_err-parser.ensures.1
     (refused_without_table _ c.requires _ gives _ _ c.in_ok-grammar.ensures.found c.in_err-parser.ensures.refused)
+
+pub declared_nodes-requires-clause-grammar : goal.declared_nodes-requires-clause-grammar
+declared_nodes-requires-clause-grammar c = (_, c.in_ok-grammar.ensures.found)
+
+pub returns-in_err-nodes-clause-refuses : goal.returns-in_err-nodes-clause-refuses
+returns-in_err-nodes-clause-refuses c =
+    let have : HaveTables (rules_of c.in_ok-rules.rules) =
+    record { bodies = c.in-Ok.ensures.bodies; scanner = c.in-Ok.ensures.scanner; splits = c.in-Ok.ensures.splits } in
+    let gives : GivesRules c.args.spec.now (rules_of c.in_ok-rules.rules) =
+    record { declares = c.in_ok-rules.ensures.rules; tables = have } in
+    passed_on _ _ _ c.from_residual-in_err-nodes.ensures.1
+    (refused_of_ast _ c.requires _ gives _ _ (gives_grammar _ _ _ c.in_ok-grammar.ensures.found
+    c.in_ok-parser.ensures.has)
+    c.in_err-nodes.ensures.fault)
 
 pub returns-in-Some-clause-refuses : goal.returns-in-Some-clause-refuses
 returns-in-Some-clause-refuses c =
     let have : HaveTables (rules_of c.in_ok-rules.rules) =
     record { bodies = c.in-Ok.ensures.bodies; scanner = c.in-Ok.ensures.scanner; splits = c.in-Ok.ensures.splits } in
-    let gives : GivesRules c.args.spec.now (rules_of c.in_ok-rules.rules) = record { declares = c.in_ok-rules.ensures.rules; tables = have } in
-    unbuilt c.requires (record { rules = rules_of c.in_ok-rules.rules; grammar = c.in_ok-grammar.grammar }) _ gives
-    (gives_grammar _ _ _ c.in_ok-grammar.ensures.found c.in_ok-parser.ensures.has) (c.in-Some.ensures c.args.spec.now c.in_ok-all.ensures.sections)
+    let gives : GivesRules c.args.spec.now (rules_of c.in_ok-rules.rules) =
+    record { declares = c.in_ok-rules.ensures.rules; tables = have } in
+    refused_unbuilt _ c.requires _ gives _ _ _ _ (gives_grammar _ _ _ c.in_ok-grammar.ensures.found
+    c.in_ok-parser.ensures.has)
+    c.in_ok-nodes.ensures.found (c.in-Some.ensures c.args.spec.now c.in_ok-all.ensures.sections)
 
 pub returns-clause-accepts : goal.returns-clause-accepts
 returns-clause-accepts c = record {
@@ -58,6 +74,7 @@ returns-clause-accepts c = record {
     tables = record { bodies = c.in-Ok.ensures.bodies; scanner = c.in-Ok.ensures.scanner; splits = c.in-Ok.ensures.splits };
   };
   grammar = gives_grammar _ _ _ c.in_ok-grammar.ensures.found c.in_ok-parser.ensures.has;
+  nodes = gives_nodes _ _ _ _ c.in_ok-nodes.ensures.found;
   all_built = c.in_default.ensures c.args.spec.now c.in_ok-all.ensures.sections;
 }
 
@@ -67,4 +84,5 @@ returns-clause-tools c = record {
   token_names = have_names c.in_ok-rules.rules c.in_ok-rules.ensures.tokens;
   parses = c.in_ok-parser.ensures.parser;
   grammar_names = found_named _ _ _ c.in_ok-grammar.ensures.found;
+  nodes_fit = nodes_if _ _ _ _ c.in_ok-nodes.ensures.found;
 }

@@ -1,6 +1,6 @@
 -- The sections LALR and ELL are looked for one after the other.
-use Rattle.std.proofs.Common.{Bool, true, false}
-use Rattle.front_spec.specs.GrammarPromise.{for_lalr, for_ell, HasGrammar}
+use Rattle.std.proofs.Common.{true, false}
+use Rattle.front_spec.specs.GrammarPromise.{for_lalr, for_ell}
 use Rattle.spec_text.specs.declared.section.Section.TheVariants.{Lalr, Ell}
 use Rattle.ck_chain.proofs.RefusedSpec.{no_grammar}
 use Rattle.ck_chain.proofs.accepting.has_grammar.Goals as goal
