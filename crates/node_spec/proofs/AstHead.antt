@@ -46,10 +46,10 @@ line_behind : (file : List ℕ) (section : Section) (these : SectionLines) → H
     → slice_get these.inside i ≡ Some line → these.head < line.number
 line_behind file section these has i line at =
     let fits = part_fits 0 0 has.lines has.parts has.among.0 has.part has.sections.are
-        (at_contained has.parts has.part has.among) in
+    (at_contained has.parts has.part has.among) in
     let inside = rw has.part_is.are at at in
     let there = get_in_drop has.lines has.part.first i line
-        (get_in_take (drop has.part.first has.lines) (has.part.end - has.part.first) i line inside) in
+    (get_in_take (drop has.part.first has.lines) (has.part.end - has.part.first) i line inside) in
     let grows = file_grows file has.lines has.sections.count has.sections.read in
     let order = fits.head in
     let more = grows has.part.head (has.part.first + i) has.part_is.line line has.part_is.at there (omega (arith, order)) in

@@ -45,13 +45,12 @@ pub mod OneAst
 mod OneAstSaying
 pub mod OneSpoken
 mod OneWhole
+mod OperatorRows
 mod Primaries
 mod ReadAst
 mod ResolvedParts
-mod OperatorRows
 mod SameMakers
 mod Sayings
-mod SpokenForms
 mod Starts
 mod ToWhole
 mod TwiceExamples

@@ -13,7 +13,7 @@ use Rattle.node_spec.specs.AstPromise.{Grew}
 use Rattle.node_spec.specs.Resolving.{Vocabulary, resolved, resolved_all, of_one, of_two, of_three, and_all}
 use Rattle.node_spec.specs.declared.written.Written.{Written}
 use Rattle.node_spec.specs.declared.written.Written.TheVariants.{Number, Negative, Negated, Binary, If}
-use Rattle.node_spec.proofs.SpokenForms.{spoken-Number, spoken-Negative, spoken-Negated, spoken-Binary, spoken-If}
+use Rattle.node_spec.proofs.Sayings.{says-Number, says-Negative, says-Negated, says-Binary, says-If}
 use Rattle.node_spec.specs.within.Meant.{AlwaysMeans, AlwaysMeanAll, meaning_in}
 use Rattle.node_spec.specs.within.Writing.{spoken_of, spoken_list}
 
@@ -43,21 +43,21 @@ pub number_made : (words : Vocabulary) (l : List ℕ) (e : Written) (n : ℕ) (m
     → ((s b : List ℕ) → IfOk made (λ found. meaning_in s b found ≡ Some (ex.number (pos n))))
     → IfOk made (λ found. AlwaysMeans l found (resolved words (spoken_of e)))
 number_made words l e n made is each = on made (at_each (λ s b found. meaning_in s b found ≡ Some (ex.number (pos n))) made each)
-    (λ found at s more. at s (l ++ more) ∙ ap (resolved words) (sym (ap spoken_of is ∙ spoken-Number n)))
+    (λ found at s more. at s (l ++ more) ∙ ap (resolved words) (sym (ap spoken_of is ∙ says-Number n)))
 
 pub negative_made : (words : Vocabulary) (l : List ℕ) (e : Written) (a : Bor Written) (part : Option Expr) (made : Result (Option Expr) NoMemory) → e ≡ Negative a
     → AlwaysMeans l part (resolved words (spoken_of a.now))
     → ((s b : List ℕ) → IfOk made (λ found. meaning_in s b found ≡ of_one ex.negative (meaning_in s b part)))
     → IfOk made (λ found. AlwaysMeans l found (resolved words (spoken_of e)))
 negative_made words l e a part made is of_part each = on made (at_each (λ s b found. meaning_in s b found ≡ of_one ex.negative (meaning_in s b part)) made each)
-    (λ found at s more. at s (l ++ more) ∙ ap (of_one ex.negative) (of_part s more) ∙ ap (resolved words) (sym (ap spoken_of is ∙ spoken-Negative a)))
+    (λ found at s more. at s (l ++ more) ∙ ap (of_one ex.negative) (of_part s more) ∙ ap (resolved words) (sym (ap spoken_of is ∙ says-Negative a)))
 
 pub negated_made : (words : Vocabulary) (l : List ℕ) (e : Written) (a : Bor Written) (part : Option Expr) (made : Result (Option Expr) NoMemory) → e ≡ Negated a
     → AlwaysMeans l part (resolved words (spoken_of a.now))
     → ((s b : List ℕ) → IfOk made (λ found. meaning_in s b found ≡ of_one ex.negated (meaning_in s b part)))
     → IfOk made (λ found. AlwaysMeans l found (resolved words (spoken_of e)))
 negated_made words l e a part made is of_part each = on made (at_each (λ s b found. meaning_in s b found ≡ of_one ex.negated (meaning_in s b part)) made each)
-    (λ found at s more. at s (l ++ more) ∙ ap (of_one ex.negated) (of_part s more) ∙ ap (resolved words) (sym (ap spoken_of is ∙ spoken-Negated a)))
+    (λ found at s more. at s (l ++ more) ∙ ap (of_one ex.negated) (of_part s more) ∙ ap (resolved words) (sym (ap spoken_of is ∙ says-Negated a)))
 
 pub binary_made : (words : Vocabulary) (l m : List ℕ) (e : Written) (o : Op) (a b : Bor Written) (left right : Option Expr) (made : Result (Option Expr) NoMemory)
     → e ≡ Binary o a b → AlwaysMeans l left (resolved words (spoken_of a.now)) → Grew l m → AlwaysMeans m right (resolved words (spoken_of b.now))
@@ -66,7 +66,7 @@ pub binary_made : (words : Vocabulary) (l m : List ℕ) (e : Written) (o : Op) (
 binary_made words l m e o a b left right made is of_left grew of_right each =
     let of_left_now = later l m left (resolved words (spoken_of a.now)) grew of_left in
     on made (at_each (λ s b found. meaning_in s b found ≡ of_two (ex.binary o) (meaning_in s b left) (meaning_in s b right)) made each) (λ found at s more.
-    at s (m ++ more) ∙ ap₂ (of_two (ex.binary o)) (of_left_now s more) (of_right s more) ∙ ap (resolved words) (sym (ap spoken_of is ∙ spoken-Binary o a b)))
+    at s (m ++ more) ∙ ap₂ (of_two (ex.binary o)) (of_left_now s more) (of_right s more) ∙ ap (resolved words) (sym (ap spoken_of is ∙ says-Binary o a b)))
 
 same_three : (make : Expression → Expression → Expression → Expression) (c d a f b g : Option Expression) → c ≡ d → a ≡ f → b ≡ g → of_three make c a b ≡ of_three make d f g
 same_three make c d a f b g first second third = ap (λ x. of_three make x a b) first ∙ ap₂ (of_three make d) second third
@@ -81,7 +81,7 @@ if_made words k l m e c a b condition left right made is of_condition grew of_le
     let of_left_now = later l m left (resolved words (spoken_of a.now)) grew_more of_left in
     on made (at_each (λ s b found. meaning_in s b found ≡ of_three ex.if_then (meaning_in s b condition) (meaning_in s b left) (meaning_in s b right)) made each) (λ found at s more.
     at s (m ++ more) ∙ same_three ex.if_then _ _ _ _ _ _ (of_condition_now s more) (of_left_now s more) (of_right s more)
-    ∙ ap (resolved words) (sym (ap spoken_of is ∙ spoken-If c a b)))
+    ∙ ap (resolved words) (sym (ap spoken_of is ∙ says-If c a b)))
 
 -- expressions before others, where those are there
 abbrev with_front : List Expression → Option Expressions → Option Expressions

@@ -70,7 +70,17 @@ pub(crate) fn declared_nodes<'a>(
     let rows = names.rows.as_slice();
     let types = table_of(alloc, list, &names.families, rows)?;
     let nodes = node_families(alloc, g, &names.families, list)?;
-    let builds = typed_builds(alloc, arena, g, head, list, names, &types, nodes.as_slice(), literals)?;
+    let builds = typed_builds(
+        alloc,
+        arena,
+        g,
+        head,
+        list,
+        names,
+        &types,
+        nodes.as_slice(),
+        literals,
+    )?;
     if let Some(line) = first_past_limit(list, rows) {
         return Err(SpecFault::Bad {
             line,

@@ -25,6 +25,7 @@ mod gathered;
 mod item_twice;
 mod laws;
 mod leaves;
+mod levels;
 mod limits;
 mod line_items;
 mod line_shapes;

@@ -5,6 +5,7 @@ ghost use Rattle.node_spec.specs.Notation.{IsSpoken, MayFollow};
 ghost use Rattle.node_spec.specs.within.Writing.{spoken_of};
 
 use crate::leaves::is_word_behind;
+use crate::levels::whole;
 use crate::written::Written;
 use bumpalo::Bump;
 use ck_base::NoMemory;
@@ -23,7 +24,14 @@ pub(crate) fn read_written<'t, 's>(
     ensures follows { IfOk result (λ found. MatchOption found (Unit {0})
         (λ read. MayFollow (map seen read.1.now))) }
 {
-    Err(NoMemory)
+    let Some((read, rest)) = whole(arena, tokens, 64)? else {
+        return Ok(None);
+    };
+    if may_follow(rest) {
+        Ok(Some((read.body, rest)))
+    } else {
+        Ok(None)
+    }
 }
 
 /// Whether the tokens may follow an expression of a line.

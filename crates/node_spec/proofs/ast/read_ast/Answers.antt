@@ -20,7 +20,7 @@ pub declared_names-requires-clause-few : goal.declared_names-requires-clause-few
 declared_names-requires-clause-few c =
     let is = c.ast_of-section.ensures c.args.spec.now c.requires.read in
     let few = list_few c.args.spec.now c.args.g.now _ is _ _ c.as_slice-list.ensures.value c.requires.size
-        c.in_ok-list.ensures.declared c.in_ok-list.ensures.few in
+    c.in_ok-list.ensures.declared c.in_ok-list.ensures.few in
     omega (arith, few)
 
 pub declared_names-requires-clause-grow : goal.declared_names-requires-clause-grow
@@ -47,7 +47,7 @@ pub declared_nodes-requires-clause-few : goal.declared_nodes-requires-clause-few
 declared_nodes-requires-clause-few c =
     let is = c.ast_of-section.ensures c.args.spec.now c.requires.read in
     let few = list_few c.args.spec.now c.args.g.now _ is _ _ c.as_slice-list.ensures.value c.requires.size
-        c.in_ok-list.ensures.declared c.in_ok-list.ensures.few in
+    c.in_ok-list.ensures.declared c.in_ok-list.ensures.few in
     omega (arith, few)
 
 pub declared_nodes-requires-clause-grow : goal.declared_nodes-requires-clause-grow
