@@ -5,6 +5,26 @@
 //! |---|---|
 //! | what AST declares; that it fits its grammar | `src/nodes.rt`; `specs/Nodes.antt` |
 //! | the names that an expression may use; its faults | `src/scope.rt`; `src/fault.rt` |
+//! | an expression as it is written, and its levels | `src/written.rt`; `specs/Spoken.antt`, `specs/Notation.antt` |
+//! | reading it, by the tokens that are next | `src/parsing.rt`, `src/levels.rt`; `specs/within/Wholes.antt` |
+//! | its leaves, operators and prefixes | `src/leaves.rt`, `src/operators.rt`, `src/prefix.rt`, `src/built.rt` |
+//! | what its names stand for | `src/vocabulary.rt`, `src/lookup.rt`; `specs/Resolving.antt` |
+//! | what it means | `src/resolving.rt`, `src/made.rt` |
+//! | whether names before parentheses are known | `src/maker_names.rt`, `src/unknown_names.rt` |
+//! | the numbers behind `$` | `src/dollars.rt`, `src/dollar_names.rt` |
+//! | what `read_expr` gives | `src/expression.rt`; `specs/Written.antt` |
+//! | AST's lines | `src/ast_line.rt`, `src/line_shapes.rt`, `src/line_items.rt`; `specs/AstShapes.antt` |
+//! | types, families, their table | `src/rows.rt`, `src/families.rt`, `src/table.rt`; `specs/AstTables.antt` |
+//! | what rules build | `src/makers.rt`, `src/build.rt`, `src/builds.rt`; `specs/AstBuilds.antt` |
+//! | the one nonterminal of a rule without a BUILD line | `src/only_nonterminal.rt` |
+//! | faults of AST | `specs/AstFaults.antt` |
+//! | kind twice | `src/twice.rt`, `src/again.rt`, `src/reserved.rt`, `src/item_twice.rt`, `src/used_twice.rt` |
+//! | kind unknown | `src/undeclared.rt`, `src/unknown_lines.rt`; at the head's line `src/unknown_head.rt` |
+//! | what lines name, gathered | `src/gathered.rt`, `src/node_lines.rt` |
+//! | kinds type and limit | `src/sides.rt`, `src/limits.rt` |
+//! | names first, then nodes | `src/ast_names.rt`, `src/ast_nodes.rt` |
+//! | what `read_ast` gives | `src/ast.rt`; `specs/AstPromise.antt` |
+//! | laws | `src/laws.rt`, `src/ast_laws.rt` |
 #![tactic(auto)]
 
 mod again;
