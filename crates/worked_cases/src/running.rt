@@ -4,14 +4,15 @@ use ck_io::{Files, MemFiles, MemSink};
 use ck_tool::cocktail;
 use std::alloc::Global;
 
-/// A sink has room for so many bytes.
+/// A sink has room for so many bytes, or for what is wanted of `out` where that is more.
 const ROOM: usize = 65_536;
 
 /// What the run of the case left, over these devices.
 pub(crate) fn run(alloc: Global, case: &Case, devices: Devices) -> Result<Wanted, NoMemory> {
     let mut files = files_of(alloc, case, devices.failing_read)?;
-    let mut out = sink_of(alloc, devices.out)?;
-    let mut err = sink_of(alloc, devices.err)?;
+    let room = case.wanted.out.len().max(ROOM);
+    let mut out = sink_of(alloc, devices.out, room)?;
+    let mut err = sink_of(alloc, devices.err, ROOM)?;
     let status = cocktail(alloc, &case.words, &mut files, &mut out, &mut err);
     Ok(Wanted {
         out: Vec::from_slice(alloc, out.bytes())?,
@@ -32,8 +33,8 @@ fn files_of(alloc: Global, case: &Case, failing_read: u64) -> Result<MemFiles, N
     Ok(files)
 }
 
-/// A sink in memory that takes bytes so.
-fn sink_of(alloc: Global, taking: Taking) -> Result<MemSink, NoMemory> {
+/// A sink in memory with so much room, that takes bytes so.
+fn sink_of(alloc: Global, taking: Taking, room: usize) -> Result<MemSink, NoMemory> {
     let fails = Vec::from_slice(alloc, &[taking.failing])?;
-    MemSink::new(alloc, taking.per_call.max(1), ROOM, fails)
+    MemSink::new(alloc, taking.per_call.max(1), room, fails)
 }
