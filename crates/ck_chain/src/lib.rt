@@ -12,7 +12,7 @@
 //! | its tokens as a stream | `src/source_tokens.rt`; `specs/within/Streams.antt`, `proofs/Drawing.antt`, `proofs/HasRun.antt` |
 //! | line and column of a place | `src/place.rt` |
 //! | words of contracts within the crate | `specs/within.antt` |
-//! | one acceptance or refusal, one answer | `src/laws.rt`; `proofs/AcceptedOrRefused.antt`, `proofs/OneAnswer.antt`, `proofs/SomeAnswer.antt` |
+//! | one acceptance or refusal, one answer | `src/laws.rt`; `proofs/AcceptedOrRefused.antt`, `proofs/OneAnswer.antt` |
 #![tactic(auto)]
 
 mod accepting;
