@@ -21,7 +21,7 @@ use Rattle.node_spec.specs.Nodes.{nodes_of}
 use Rattle.node_spec.specs.declared.nodes.NodeSpec.{NodeSpec}
 use Rattle.node_spec.specs.AstFaults.{AstFault, AstHeadFault, ast, map_item, item_of_other_side, target_node, builds_no_node}
 use Rattle.node_spec.specs.AstPromise.{judged_ast}
-use Rattle.node_spec.specs.within.AstStages.{IsLeastTyping, earlier_of}
+use Rattle.node_spec.specs.within.AstStages.{IsLeastTyping, earlier_or}
 use Rattle.node_spec.specs.within.AstSteps.{HasNone, HasIn, IsBefore, IsFirstOf, IsOfWrongSide, a_map, of_other_side, of_target, BuildsNoNode, no_node}
 
 module _ (g : NamedGrammar) (these : SectionLines) (ds : List (Declared AstSaying)) (head : ℕ)
@@ -151,7 +151,7 @@ module _ (g : NamedGrammar) (head : ℕ) (ds : List (Declared AstSaying)) where
     -- the earlier of the two
     pub first_of_both : (wrong : Option ℕ) (line : ℕ)
         → MatchOption wrong ((m : ℕ) → HasAt ds (IsOfWrongSide ds) m → ⊥) (Least (HasAt ds (IsOfWrongSide ds)))
-        → Least (HasAt ds (BuildsNoNode g ds)) line → Least (HasIn g head ds Typing) (earlier_of wrong line)
+        → Least (HasAt ds (BuildsNoNode g ds)) line → Least (HasIn g head ds Typing) (earlier_or wrong line)
     first_of_both None line none least = record { is = of_build line least.is; least = λ m has. by m has }
       where
         on : (m : ℕ) → HasAt ds (IsOfWrongSide ds) m ⊎ HasAt ds (BuildsNoNode g ds) m → line ≤ m

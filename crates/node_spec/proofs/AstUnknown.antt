@@ -15,11 +15,12 @@ use Rattle.node_spec.specs.AstTables.{families_in, family_names, family_then, ty
 use Rattle.node_spec.specs.AstFaults.{AstFault, no_base, no_item_type, no_nonterminal, no_family, no_rule, no_maker, AstHeadFault, name_then, names_in, item_words}
 use Rattle.node_spec.specs.declared.ast_line.ItemText.{ItemText}
 use Rattle.node_spec.specs.within.AstSeen.{item_seen}
-use Rattle.node_spec.specs.within.AstSteps.{FirstWith, HasIn, IsBefore}
-use Rattle.node_spec.specs.within.AstUnknown.{type_then, types_in, HasNoBase, IsItemWord, IsUnknownType, HasUnknownItem, BaseFault, ItemFault, NodeFault, BuildFault, earlier_of}
+use Rattle.node_spec.specs.within.AstSteps.{FirstWith, HasIn, IsBefore, Either, earlier_of}
+use Rattle.node_spec.specs.within.AstUnknown.{type_then, types_in, HasNoBase, IsItemWord, IsUnknownType, HasUnknownItem, BaseFault, ItemFault, NodeFault, BuildFault}
 use Rattle.node_spec.proofs.AstGathered.{MetSoFar, name_of, names_gather, none_met, met_more}
 use Rattle.node_spec.proofs.AstFamilies.{families_within, types_within, types_named}
 use Rattle.node_spec.proofs.AstUnknownLists.{at_first, at_later, first_or_later, met_has, met_had, contains_within}
+use Rattle.node_spec.proofs.FirstLines.{first_as, first_of_two}
 
 -- the bases of the first i lines
 pub record BasesSoFar (ds : List (Declared AstSaying)) (i : ℕ) (known : List (List ℕ)) : Type 0 where
@@ -112,88 +113,6 @@ item_at list i p item is less = rw is (map_get item_seen list i (get_or list i p
 pub items_end : (list : List ItemText) (i : ℕ) → length list ≤ i → length (map item_seen list) ≤ i
 items_end list i end = omega (arith, end, length-map list item_seen)
 
--- the earlier of two lines that were found is the first with either
-module _ (ds : List (Declared AstSaying)) (F G : ℕ → AstSaying → Type 0) where
-  abbrev pub Either : ℕ → AstSaying → Type 0
-  Either i said = F i said ⊎ G i said
-
-  first_of : (line : ℕ) → HasAt ds F line → HasAt ds Either line
-  first_of line has =
-      record { place = has.place; declared = has.declared; is = has.is; number = has.number; fault = inl has.fault }
-
-  second_of : (line : ℕ) → HasAt ds G line → HasAt ds Either line
-  second_of line has =
-      record { place = has.place; declared = has.declared; is = has.is; number = has.number; fault = inr has.fault }
-
-  one_of : (line : ℕ) → HasAt ds Either line → HasAt ds F line ⊎ HasAt ds G line
-  one_of line has = by has.fault
-    where
-      by : Either has.place has.declared.said → HasAt ds F line ⊎ HasAt ds G line
-      by (inl fault) =
-          inl (record { place = has.place; declared = has.declared; is = has.is; number = has.number; fault = fault })
-      by (inr fault) =
-          inr (record { place = has.place; declared = has.declared; is = has.is; number = has.number; fault = fault })
-
-  pub earlier : (a b : Option ℕ) → FirstWith ds F a → FirstWith ds G b → FirstWith ds Either (earlier_of a b)
-  earlier None None none_f none_g = λ line has. by line (one_of line has)
-    where
-      by : (line : ℕ) → HasAt ds F line ⊎ HasAt ds G line → ⊥
-      by line (inl f) = none_f line f
-      by line (inr g) = none_g line g
-  earlier None (Some n) none_f g = record { is = second_of n g.is; least = λ line has. by line (one_of line has) }
-    where
-      by : (line : ℕ) → HasAt ds F line ⊎ HasAt ds G line → n ≤ line
-      by line (inl f) = absurd (none_f line f)
-      by line (inr h) = g.least line h
-  earlier (Some n) None f none_g = record { is = first_of n f.is; least = λ line has. by line (one_of line has) }
-    where
-      by : (line : ℕ) → HasAt ds F line ⊎ HasAt ds G line → n ≤ line
-      by line (inl h) = f.least line h
-      by line (inr g) = absurd (none_g line g)
-  earlier (Some n) (Some m) f g = record { is = least_is (order n m); least = λ line has. by line (one_of line has) }
-    where
-      least_is : (n < m) ⊎ ((m < n) ⊎ (n ≡ m)) → HasAt ds Either (min n m)
-      least_is (inl less) = subst (HasAt ds Either) (let e : n ≡ min n m = omega (arith, less) in e) (first_of n f.is)
-      least_is (inr (inl more)) = subst (HasAt ds Either) (let e : m ≡ min n m = omega (arith, more) in e)
-          (second_of m g.is)
-      least_is (inr (inr same)) = subst (HasAt ds Either) (let e : n ≡ min n m = omega (arith, same) in e)
-          (first_of n f.is)
-
-      by : (line : ℕ) → HasAt ds F line ⊎ HasAt ds G line → min n m ≤ line
-      by line (inl h) = let least = f.least line h in omega (arith, least)
-      by line (inr h) = let least = g.least line h in omega (arith, least)
-
-  -- what is the same at each line is first at the same
-  pub same_first : ((i : ℕ) (said : AstSaying) → F i said → G i said)
-      → ((i : ℕ) (said : AstSaying) → G i said → F i said)
-      → (found : Option ℕ) → FirstWith ds F found → FirstWith ds G found
-  same_first to from None none = λ line has. none line (back line has)
-    where
-      back : (line : ℕ) → HasAt ds G line → HasAt ds F line
-      back line has = record {
-        place = has.place;
-        declared = has.declared;
-        is = has.is;
-        number = has.number;
-        fault = from has.place has.declared.said has.fault;
-      }
-  same_first to from (Some n) first = record {
-    is = record {
-      place = first.is.place;
-      declared = first.is.declared;
-      is = first.is.is;
-      number = first.is.number;
-      fault = to first.is.place first.is.declared.said first.is.fault;
-    };
-    least = λ line has. first.least line (record {
-      place = has.place;
-      declared = has.declared;
-      is = has.is;
-      number = has.number;
-      fault = from has.place has.declared.said has.fault;
-    });
-  }
-
 -- a name is a family's or a type's
 module _ (name : List ℕ) where
   pub names_split : (ds : List (Declared AstSaying)) → Contains (names_in ds) name
@@ -237,13 +156,13 @@ module _ (name : List ℕ) where
 module _ (g : NamedGrammar) (ds : List (Declared AstSaying)) (families types : List (List ℕ))
     (families_are : families ≡ family_names ds) (types_are : types ≡ type_names ds) where
   abbrev pub InTypes : ℕ → AstSaying → Type 0
-  InTypes = Either ds (BaseFault ds) (ItemFault families)
+  InTypes = Either (BaseFault ds) (ItemFault families)
 
   abbrev pub InUses : ℕ → AstSaying → Type 0
-  InUses = Either ds (NodeFault g.nonterminals families) (BuildFault g.labels types)
+  InUses = Either (NodeFault g.nonterminals families) (BuildFault g.labels types)
 
   abbrev pub InAny : ℕ → AstSaying → Type 0
-  InAny = Either ds InTypes InUses
+  InAny = Either InTypes InUses
 
   looked_for : (i : ℕ) (said : AstSaying) → AstFault g ds Unknown i said → InAny i said
   looked_for _ _ (no_base i name base items not_family not_type) =
@@ -305,11 +224,11 @@ module _ (g : NamedGrammar) (ds : List (Declared AstSaying)) (families types : L
   first_of_all base item in_nodes in_builds first second found of_base of_item of_node of_build first_is second_is is =
       subst (FirstWith ds (AstFault g ds Unknown))
       (sym (is ∙ ap (λ x. earlier_of x second) first_is ∙ ap (earlier_of (earlier_of base item)) second_is))
-      (same_first ds InAny (AstFault g ds Unknown) is_fault looked_for
+      (first_as ds InAny (AstFault g ds Unknown) is_fault looked_for
       (earlier_of (earlier_of base item) (earlier_of in_nodes in_builds))
-      (earlier ds InTypes InUses (earlier_of base item) (earlier_of in_nodes in_builds)
-      (earlier ds (BaseFault ds) (ItemFault families) base item of_base of_item)
-      (earlier ds (NodeFault g.nonterminals families) (BuildFault g.labels types) in_nodes in_builds of_node of_build)))
+      (first_of_two ds InTypes InUses (earlier_of base item) (earlier_of in_nodes in_builds)
+      (first_of_two ds (BaseFault ds) (ItemFault families) base item of_base of_item)
+      (first_of_two ds (NodeFault g.nonterminals families) (BuildFault g.labels types) in_nodes in_builds of_node of_build)))
 
 -- the head stands before all lines
 module _ (g : NamedGrammar) (head : ℕ) (ds : List (Declared AstSaying)) where

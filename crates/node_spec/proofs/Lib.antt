@@ -30,6 +30,7 @@ mod ExpressionExamples
 mod FamiliesKnown
 mod FitItems
 mod FitsGrammar
+mod FirstLines
 mod Following
 mod FoundParts
 mod FromWhole

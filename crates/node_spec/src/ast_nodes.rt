@@ -14,7 +14,7 @@ ghost use Rattle.node_spec.specs.Nodes.{nodes_of};
 ghost use Rattle.node_spec.specs.within.AstBuilt.{AllBuild};
 ghost use Rattle.node_spec.specs.within.AstSeen.{declared_by, row_seen};
 ghost use Rattle.node_spec.specs.within.AstSteps.{AreFamilies, HasIn, HasNone, IsBefore, IsFirstOf};
-ghost use Rattle.node_spec.specs.within.AstStages.{IsLeastTyping, earlier_of};
+ghost use Rattle.node_spec.specs.within.AstStages.{IsLeastTyping, earlier_or};
 
 use crate::ast_line::AstLine;
 use crate::ast_names::AstNames;
@@ -140,7 +140,7 @@ fn typed_builds<'a>(
     let wrong = first_of_wrong_side(list, &names.families, names.rows.as_slice());
     match builds_of(alloc, arena, g, list, types, nodes, literals)? {
         Found::Wrong(line) => Err(SpecFault::Bad {
-            line: earlier(wrong, line),
+            line: earlier_or(wrong, line),
             kind: Kind::Typing,
         }),
         Found::Builds(builds) => match wrong {
@@ -154,8 +154,8 @@ fn typed_builds<'a>(
 }
 
 /// The earlier of two lines, of which the first may be missing.
-fn earlier(wrong: Option<u32>, line: u32) -> u32
-    ensures { result ≡ earlier_of wrong line }
+fn earlier_or(wrong: Option<u32>, line: u32) -> u32
+    ensures { result ≡ earlier_or wrong line }
 {
     match wrong {
         Some(other) => other.min(line),

@@ -53,7 +53,8 @@ pub(crate) fn builds_of<'a>(
     requires nonterminals { length g.now.nonterminals ≡ g.now.grammar.nonterminals }
     requires apart { AreApart (labels_in (map declared_by list.now)) }
     requires types { types.now ≡ table_by (map declared_by list.now) }
-    requires families { node_families.now ≡ families_by (map declared_by list.now) g.now.nonterminals }
+    requires families { node_families.now
+        ≡ families_by (map declared_by list.now) g.now.nonterminals }
     requires there { AstHeadFault g.now (map declared_by list.now) unknown → ⊥ }
     requires same { AstHeadFault g.now (map declared_by list.now) typing → ⊥ }
     ensures builds { IfOk result (λ found. (source more : List ℕ)

@@ -19,8 +19,16 @@ use std::alloc::Global;
 use value_store::{Literals, ValType};
 
 /// The expression that stands among the tokens at the place `at`, its type, and the number of the
-/// token behind it. Its strings are put into the literals, and it means the same whatever is put
-/// behind them.
+/// token behind it. It is the run of tokens from there on that is an expression, of nesting 64 at
+/// most, and is followed by their end, by `)`, `,` or `=>`, or by one of the words IF, LET, WHEN,
+/// COST, EARLY, EMIT; there is one such run at most. Its strings are put into the literals, and it
+/// means the same whatever is put behind them.
+///
+/// `Bad` has kind `Syntax` where no such expression stands there, and `next` is `at`. Else it has kind
+/// `Unknown` where a name before parentheses is neither a function's nor a maker's, and kind `Typing`
+/// where there is no such name, but another name isn't there or the expression has no type; then
+/// `next` is the number of the token behind it. `NoMemory` comes where memory is wanting. Texts may
+/// have been put into the literals before a refusal.
 pub fn read_expr<'a>(
     alloc: Global,
     arena: &'a Bump<Global>,

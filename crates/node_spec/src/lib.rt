@@ -20,6 +20,7 @@
 //! | faults of AST | `specs/AstFaults.antt` |
 //! | kind twice | `src/twice.rt`, `src/again.rt`, `src/reserved.rt`, `src/item_twice.rt`, `src/used_twice.rt` |
 //! | kind unknown | `src/undeclared.rt`, `src/unknown_lines.rt`; at the head's line `src/unknown_head.rt` |
+//! | the earlier one of two lines | `src/earlier.rt` |
 //! | what lines name, gathered | `src/gathered.rt`, `src/node_lines.rt` |
 //! | kinds type and limit | `src/sides.rt`, `src/limits.rt` |
 //! | names first, then nodes | `src/ast_names.rt`, `src/ast_nodes.rt` |
@@ -38,6 +39,7 @@ mod builds;
 mod built;
 mod dollar_names;
 mod dollars;
+mod earlier;
 mod expression;
 mod families;
 mod fault;

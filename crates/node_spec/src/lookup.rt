@@ -2,7 +2,7 @@ ghost use Rattle.std.specs.Prelude.{◌≡◌, ◌∷◌, ◌++◌, decimal, map
 ghost use Rattle.std.specs.Str.{bytes_eq};
 ghost use Rattle.ck_base.specs.Numbered.{number_of};
 ghost use Rattle.node_spec.specs.Resolving.{dollar_name, function_of, paired};
-ghost use Rattle.node_spec.specs.within.Meant.{dotted_of};
+ghost use Rattle.node_spec.specs.Written.{dotted_in};
 
 use ck_base::NoMemory;
 use expr_lang::Function;
@@ -42,7 +42,7 @@ fn is_dollar_name(digits: &[u8], name: &[u8]) -> bool
 
 /// The variable of two words: the first one so called.
 pub(crate) fn variable_of(dotted: &[(Name, Name, u32)], before: &[u8], after: &[u8]) -> Option<u32>
-    ensures { result ≡ paired (map dotted_of dotted.now) before.now after.now }
+    ensures { result ≡ paired (map dotted_in dotted.now) before.now after.now }
 {
     for item in dotted {
         if item.0.bytes() == before && item.1.bytes() == after {

@@ -7,10 +7,10 @@ ghost use Rattle.node_spec.specs.AstFaults.{ast, labels_in, names_in};
 ghost use Rattle.node_spec.specs.AstTables.{rows_in};
 ghost use Rattle.node_spec.specs.within.AstSeen.{declared_by, row_seen};
 ghost use Rattle.node_spec.specs.within.AstSteps.{HasNone};
-ghost use Rattle.node_spec.specs.within.AstTwice.{earlier_of};
 
 use crate::again::{Sort, first_again};
 use crate::ast_line::AstLine;
+use crate::earlier::earlier;
 use crate::item_twice::first_item_twice;
 use crate::reserved::first_reserved;
 use crate::rows::TypeRow;
@@ -49,17 +49,4 @@ pub(crate) fn first_twice(
     let others = earlier(reserved, within);
     let first = earlier(again, others);
     Ok(first)
-}
-
-/// The earlier one of two lines, where there are two.
-fn earlier(a: Option<u32>, b: Option<u32>) -> Option<u32>
-    ensures { result ≡ earlier_of a b }
-{
-    let Some(first) = a else {
-        return b;
-    };
-    let Some(second) = b else {
-        return a;
-    };
-    Some(first.min(second))
 }

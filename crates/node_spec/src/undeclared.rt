@@ -5,9 +5,9 @@ ghost use Rattle.spec_text.specs.FirstFault.{Least};
 ghost use Rattle.node_spec.specs.AstTables.{type_names};
 ghost use Rattle.node_spec.specs.within.AstSeen.{declared_by};
 ghost use Rattle.node_spec.specs.within.AstSteps.{AreFamilies, HasIn, IsBefore};
-ghost use Rattle.node_spec.specs.within.AstUnknown.{earlier_of};
 
 use crate::ast_line::AstLine;
+use crate::earlier::earlier;
 use crate::families::Families;
 use crate::unknown_head::is_head_unknown;
 use crate::unknown_lines::{
@@ -47,17 +47,4 @@ pub(crate) fn first_unknown(
     let second = earlier(node, build);
     let found = earlier(first, second);
     Ok(found)
-}
-
-/// The lesser of two lines, where there are any.
-fn earlier(a: Option<u32>, b: Option<u32>) -> Option<u32>
-    ensures { result ≡ earlier_of a b }
-{
-    let Some(first) = a else {
-        return b;
-    };
-    let Some(second) = b else {
-        return a;
-    };
-    Some(first.min(second))
 }

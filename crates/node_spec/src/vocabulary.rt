@@ -17,7 +17,7 @@ pub(crate) struct Vocabulary<'s> {
 impl<'s> Model for Vocabulary<'s> {
     ghost use Rattle.node_spec.specs.Resolving.{Vocabulary};
     ghost use Rattle.std.specs.Prelude.{map};
-    ghost use Rattle.node_spec.specs.within.Meant.{dotted_of};
+    ghost use Rattle.node_spec.specs.Written.{dotted_in};
 
     ghost Value = { Vocabulary };
 
@@ -25,6 +25,6 @@ impl<'s> Model for Vocabulary<'s> {
       variables = v.variables.now;
       makers = v.makers.now;
       types = v.types.now;
-      dotted = map dotted_of v.dotted.now;
+      dotted = map dotted_in v.dotted.now;
     } };
 }

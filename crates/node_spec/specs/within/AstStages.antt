@@ -15,6 +15,6 @@ IsLeastTyping g head ds (Bad line kind) = (kind ≡ Typing) × Least (HasIn g he
 IsLeastTyping g head ds NoMemory = Unit {0}
 
 -- the earlier of two lines, of which the first may be missing
-abbrev pub earlier_of : Option ℕ → ℕ → ℕ
-earlier_of None line = line
-earlier_of (Some other) line = min other line
+abbrev pub earlier_or : Option ℕ → ℕ → ℕ
+earlier_or None line = line
+earlier_or (Some other) line = min other line

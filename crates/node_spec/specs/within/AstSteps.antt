@@ -1,5 +1,5 @@
 -- What the steps of the reader of AST see and find. Only contracts within the crate cite these.
-use Rattle.std.specs.Prelude.{◌≡◌, ◌⊎◌, ℕ, ◌++◌, ◌<◌, Bool, true, List, map, length, Contains, Option, Some, None, MatchOption, slice_get, slice_index, codes}
+use Rattle.std.specs.Prelude.{◌≡◌, ◌⊎◌, ℕ, ◌++◌, ◌<◌, min, Bool, true, List, map, length, Contains, Option, Some, None, MatchOption, slice_get, slice_index, codes}
 use Rattle.value_store.specs.declared.value.ValType.TheVariants as ty
 use Rattle.ck_base.specs.declared.fault.Kind.{Kind}
 use Rattle.ck_base.specs.declared.fault.SpecFault.{SpecFault}
@@ -25,6 +25,16 @@ IsFirstOf g these NoMemory = Unit {0}
 -- the least line of a declaration with F; None where there is none
 abbrev pub FirstWith : List (Declared AstSaying) → (ℕ → AstSaying → Type 0) → Option ℕ → Type 0
 FirstWith ds F found = MatchOption found ((line : ℕ) → HasAt ds F line → ⊥) (Least (HasAt ds F))
+
+-- one of two faults
+abbrev pub Either : (ℕ → AstSaying → Type 0) → (ℕ → AstSaying → Type 0) → ℕ → AstSaying → Type 0
+Either F G i said = F i said ⊎ G i said
+
+-- the lesser of two lines, where there are two
+abbrev pub earlier_of : Option ℕ → Option ℕ → Option ℕ
+earlier_of None b = b
+earlier_of (Some n) None = Some n
+earlier_of (Some n) (Some m) = Some (min n m)
 
 -- no line has a fault of the kind
 abbrev pub HasNone : NamedGrammar → List (Declared AstSaying) → Kind → Type 0

@@ -1,5 +1,5 @@
 -- What the passes for names that are there twice look for. Only contracts within the crate cite these.
-use Rattle.std.specs.Prelude.{◌≡◌, ℕ, ◌+◌, ◌≤◌, Bool, true, false, List, [], ◌∷◌, ◌++◌, length, map, take, Contains, Option, Some, None, is_some, if◌then◌else◌, slice_get, slice_index_or, slice_set, min, ◌⊎◌}
+use Rattle.std.specs.Prelude.{◌≡◌, ℕ, ◌+◌, ◌≤◌, Bool, true, false, List, [], ◌∷◌, ◌++◌, length, map, take, Contains, Option, Some, None, is_some, if◌then◌else◌, slice_get, slice_index_or, slice_set}
 use Rattle.cfg_model.specs.Cfg.{Rule}
 use Rattle.cfg_model.specs.declared.named.NamedGrammar.{NamedGrammar}
 use Rattle.cfg_model.specs.declared.symbol.Sym.{Sym}
@@ -129,13 +129,3 @@ pub data Uses (right : List Sym) (number : ℕ) (old new : List Bool) : Bool →
 pub data UsesTwice (g : NamedGrammar) : ℕ → AstSaying → Type 0 where
   of_rule : (i : ℕ) (label : List ℕ) (e : Spoken) (rule : Rule) → IsRuleOf g label rule
       → UsedTwice rule.right (dollars_in e) → UsesTwice g i (build label e)
-
--- one of two faults
-abbrev pub Either : (ℕ → AstSaying → Type 0) → (ℕ → AstSaying → Type 0) → ℕ → AstSaying → Type 0
-Either F G i said = F i said ⊎ G i said
-
--- the lesser of two lines, where there are two
-abbrev pub earlier_of : Option ℕ → Option ℕ → Option ℕ
-earlier_of None b = b
-earlier_of (Some n) None = Some n
-earlier_of (Some n) (Some m) = Some (min n m)

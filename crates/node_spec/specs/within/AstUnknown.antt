@@ -1,5 +1,5 @@
 -- What the passes for kind unknown see and look for. Only contracts within the crate cite these.
-use Rattle.std.specs.Prelude.{◌≡◌, ◌⊎◌, ℕ, ◌+◌, ◌<◌, min, Bool, true, false, List, [], ◌∷◌, ◌++◌, length, map, take, drop, Contains, Option, Some, None, unwrap_or, codes, slice_get}
+use Rattle.std.specs.Prelude.{◌≡◌, ◌⊎◌, ℕ, ◌+◌, ◌<◌, Bool, true, false, List, [], ◌∷◌, ◌++◌, length, map, take, drop, Contains, Option, Some, None, unwrap_or, codes, slice_get}
 use Rattle.std.specs.Borrow.{Bor}
 use Rattle.cfg_model.specs.Cfg.{Rule}
 use Rattle.cfg_model.specs.declared.symbol.Sym.{Sym}
@@ -121,12 +121,6 @@ NodeFault nonterminals families i said = IsUnknownNode nonterminals families sai
 
 abbrev pub BuildFault : List (List ℕ) → List (List ℕ) → ℕ → AstSaying → Type 0
 BuildFault labels types i said = IsUnknownBuild labels types said
-
--- the lesser of two lines, where there are any
-abbrev pub earlier_of : Option ℕ → Option ℕ → Option ℕ
-earlier_of None b = b
-earlier_of (Some a) None = Some a
-earlier_of (Some a) (Some b) = Some (min a b)
 
 -- a family of the source side is called so
 pub record IsSource (names : List (List ℕ)) (targets : List Bool) (name : List ℕ) : Type 0 where

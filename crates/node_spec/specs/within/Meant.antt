@@ -1,15 +1,9 @@
--- What a vocabulary of the program is, and what its expressions mean where there are some. Only contracts within the
--- crate cite this.
+-- What expressions of the program mean, where there are some. Only contracts within the crate cite this.
 use Rattle.std.specs.Prelude.{◌≡◌, ℕ, ◌++◌, List, map, Option, Some, None}
 use Rattle.std.specs.Borrow.{Bor}
 use Rattle.expr_lang.specs.Expression.{Expression, Expressions}
 use Rattle.expr_lang.specs.Meaning.{meaning, expressions_of}
 use Rattle.expr_lang.specs.declared.expr.Expr.{Expr}
-use Rattle.node_spec.specs.Resolving.{Dotted}
-
--- two words and a number
-abbrev pub dotted_of : (List ℕ × List ℕ × ℕ) → Dotted
-dotted_of d = record { before = d.0; after = d.1; variable = d.2 }
 
 -- the meaning of an expression, where there is one
 abbrev pub meaning_in : List ℕ → List ℕ → Option Expr → Option Expression

@@ -9,7 +9,7 @@ builds_of-requires-clause-there c = λ is. c.requires.unknown c.args.head (inr (
 pub returns-in-Wrong-clause-fault : goal.returns-in-Wrong-clause-fault
 returns-in-Wrong-clause-fault c = (
   refl,
-  rw c.earlier.ensures (first_of_both _ _ _ (not_so _ c.in_ok-joins_families.ensures c.if-branch.false) _ _ c.first_of_wrong_side-wrong.ensures
+  rw c.earlier_or.ensures (first_of_both _ _ _ (not_so _ c.in_ok-joins_families.ensures c.if-branch.false) _ _ c.first_of_wrong_side-wrong.ensures
       (rw c.in-Wrong.is at (c.in_ok-line.ensures.builds [] []))),
 )
 
