@@ -41,9 +41,3 @@ pub type_read : (rows seen : List TypeRow) (types : List NodeType) (t : ℕ) (ro
 type_read rows seen types t row view same at =
     sym (ap (λ ts. type_at ts t) view)
     ∙ ap type_in (slice_get-map type_of_row rows t ∙ ap (option_map type_of_row) (sym (ap (λ r. slice_get r t) same) ∙ at))
-
-pub family_read : (rows seen : List FamilyRow) (families : List Family) (f : ℕ) (row : FamilyRow) → map family_of_row rows ≡ families → seen ≡ rows
-    → slice_get seen f ≡ Some row → family_at families f ≡ family_of_row row
-family_read rows seen families f row view same at =
-    sym (ap (λ fs. family_at fs f) view)
-    ∙ ap family_in (slice_get-map family_of_row rows f ∙ ap (option_map family_of_row) (sym (ap (λ r. slice_get r f) same) ∙ at))

@@ -27,17 +27,6 @@ data Where (n t : ℕ) : Type 0 where
   at_end : t ≡ n → Where n t
   past : n < t → Where n t
 
-more_where : (n t : ℕ) → Where n t → Where (suc n) (suc t)
-more_where n t (below lt) = below (omega (arith, lt))
-more_where n t (at_end e) = at_end (ap suc e)
-more_where n t (past lt) = past (omega (arith, lt))
-
-where_is : (n t : ℕ) → Where n t
-where_is zero zero = at_end refl
-where_is zero (suc t) = past (omega arith)
-where_is (suc n) zero = below (omega arith)
-where_is (suc n) (suc t) = more_where n t (where_is n t)
-
 type_at-more : (types : List NodeType) (new : NodeType) (t : ℕ) → t < length types → type_at (types ++ new ∷ []) t ≡ type_at types t
 type_at-more types new t within = ap type_in (slice_get-more types (new ∷ []) t within)
 
@@ -103,16 +92,3 @@ pub type_added : (fams : List FamilyRow) (rows new : List TypeRow) (row : TypeRo
 type_added fams rows new row families types own sound ts fs family fits items is =
     rw (is, map-append type_of_row rows (row ∷ []))
     (more_types (map family_of_row fams) (map type_of_row rows) (type_of_row row) own sound (rw fs family) (rw ts fits) (rw ts items))
-
--- one more family leaves the table sound
-pub family_added : (fams new : List FamilyRow) (row : FamilyRow) (rows : List TypeRow)
-    → IsSound (record { families = map family_of_row fams; types = map type_of_row rows }) → new ≡ fams ++ row ∷ []
-    → IsSound (record { families = map family_of_row new; types = map type_of_row rows })
-family_added fams new row rows sound is = record {
-  base_before = sound.base_before;
-  base_family = sound.base_family;
-  base_first = sound.base_first;
-  family_there = λ t within.
-      (let there = sound.family_there t within in
-      omega (arith, there, ap (λ r. length (map family_of_row r)) is, ap length (map-append family_of_row fams (row ∷ [])), length-append (map family_of_row fams) (map family_of_row (row ∷ []))));
-}

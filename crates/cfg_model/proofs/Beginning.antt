@@ -17,20 +17,7 @@ module _ (rows : List BitSet) (null : BitSet) (list : List Sym) where
     pub later : (t : ℕ) → Begins rows null rest t → Begins rows null list t
     pub vanish : AllPass false (Has null) rest ↔ AllPass false (Has null) list
 
-  pub beginning_none : (old : BitSet) → Beginning list old old
-  beginning_none old = record { size = refl; only = λ t has. inl has; kept = λ t has. has; more = λ t b. inr b; later = λ t b. b; vanish = (λ a. a, λ a. a) }
-
   module _ (rest : List Sym) (old now new : BitSet) where
-    pub begin_terminal : (a : ℕ) → Beginning (T a ∷ rest) old now → Adds now new (λ k. k ≡ a) → Adds old new (Begins rows null list) × (AllPass false (Has null) list → ⊥)
-    begin_terminal a so_far adds = (
-      record {
-        size = adds.size ∙ so_far.size;
-        only = λ t has. elim (adds.only t has) [ inl was ↦ so_far.only t was | inr is ↦ inr (so_far.later t is) ];
-        kept = λ t has. adds.kept t (so_far.kept t has);
-        more = λ t b. elim (so_far.more t b) [ inl has ↦ adds.kept t has | inr is ↦ adds.more t is ];
-      },
-      λ all. (let e = (so_far.vanish.1 all).0 in cc),
-    )
 
     pub begin_stop : (n : ℕ) → Beginning (N n ∷ rest) old now → Adds now new (λ t. In rows n t) → (Has null n → ⊥)
         → Adds old new (Begins rows null list) × (AllPass false (Has null) list → ⊥)
@@ -61,14 +48,3 @@ module _ (rows : List BitSet) (null : BitSet) (list : List Sym) where
       later = λ t b. so_far.later t (inr (vanish, b));
       vanish = (λ all. so_far.vanish.0 (vanish, all), λ all. (so_far.vanish.1 all).1);
     }
-
-    pub begin_done : Beginning [] old now → Adds old now (Begins rows null list) × AllPass false (Has null) list
-    begin_done so_far = (
-      record {
-        size = so_far.size;
-        only = so_far.only;
-        kept = so_far.kept;
-        more = λ t b. elim (so_far.more t b) [ inl has ↦ has | inr none_left ↦ absurd none_left ];
-      },
-      so_far.vanish.0 tt,
-    )

@@ -98,10 +98,6 @@ each_in g cores In c dem p n r d y a (Spreads.move o _ r2 d2 x _ _ s same) is =
     dem.move o k n r2 d2 x y a here item (number_of_same g cores n p (x ∷ o) is (same_back g _ _ same))
     (each_in g cores In c dem o k r2 d2 _ a s here)
 
--- a relation that stays within what spreads
-abbrev pub Within : Cfg → CoreList → (ℕ → ℕ → ℕ → ℕ → Type 0) → Type 0
-Within g cores In = (n r d a : ℕ) → In n r d a → (p : List Sym) (y : List Sym) → IsCore g cores n p → InCore g p r d y → Spreads g p r d y a
-
 -- one lookahead more stays within, by a move
 pub within_move : (g : Cfg) (cores : CoreList) (o q : List Sym) (k m r d : ℕ) (x : Sym) (y z : List Sym) (a : ℕ)
     → IsCore g cores m (x ∷ o) → Spreads g o r d (x ∷ y) a → IsCore g cores m q → InCore g q r (suc d) z

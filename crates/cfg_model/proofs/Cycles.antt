@@ -141,10 +141,6 @@ module _ (g : Cfg) (null : BitSet) (nullable_is : AreMakers false g null) where
   pub cycle_then : (a b c : ℕ) → StepsOnce g (N a ∷ []) (N b ∷ []) → StepsOnce g (N b ∷ []) (N c ∷ []) → StepsOnce g (N a ∷ []) (N c ∷ [])
   cycle_then a b c first (x, steps, last) = once_more (N a ∷ []) (N b ∷ []) (N c ∷ []) first (more x (N c ∷ []) steps last)
 
-  -- steps to a list, and one or more steps of what they lead to
-  pub once_then : (u v w : List Sym) → Steps g u v → StepsOnce g v w → StepsOnce g u w
-  once_then u v w first (x, steps, last) = (x, steps_then g first steps, last)
-
   -- left runs behind something that isn't empty
   abbrev pub HiddenRun : ℕ → ℕ → Type 0
   HiddenRun a b = (x : List Sym) × (y : List Sym) × (x ≡ [] → ⊥) × Nullable g x × StepsOnce g (N a ∷ []) (x ++ (N b ∷ y))

@@ -19,25 +19,9 @@ use Rattle.cfg_model.specs.Sets.{Productive, First}
 use Rattle.cfg_model.proofs.FirstSets.{row_is_first, first_row}
 use Rattle.cfg_model.proofs.Fronts.{at_front, at_end, at_cases}
 
-in_push : (rows : List BitSet) (last : BitSet) (n t : ℕ) → In (rows ++ (last ∷ [])) n t → In rows n t ⊎ Has last t
-in_push [] last zero t has = inr has
-in_push [] last (suc n) t has = inl has
-in_push (x ∷ rows) last zero t has = inl has
-in_push (x ∷ rows) last (suc n) t has = in_push rows last n t has
-
 pub record EmptyRows (count width : ℕ) (rows : List BitSet) : Type 0 where
   pub are : AreRows count width rows
   pub none_in : (n t : ℕ) → In rows n t → ⊥
-
-pub empty_more : (count width : ℕ) (rows : List BitSet) (last : BitSet) → EmptyRows count width rows → last.size ≡ width → IsEmpty last
-    → EmptyRows (count + 1) width (rows ++ (last ∷ []))
-empty_more count width rows last before size empty = record {
-  are = record {
-    count_is = length_push rows last ∙ ap (λ n. n + 1) before.are.count_is;
-    widths = All-push (λ (s : BitSet). s.size ≡ width) rows last before.are.widths size;
-  };
-  none_in = λ n t has. elim (in_push rows last n t has) [ inl was ↦ before.none_in n t was | inr new ↦ empty t new ];
-}
 
 abbrev as_part : ℕ → Sym → Part
 as_part n s = record { left = n; symbol = s }
@@ -120,20 +104,6 @@ module _ (parts : List Part) (i : ℕ) (part : Part) (is : slice_get parts i ≡
       | inr other ↦ before.all j n u (omega arith) read
     ];
   }
-
-pub edges_all : (parts : List Part) (count : ℕ) (edges : List Edge) → EdgesSoFar parts count 0 edges → AreFirstEdges count parts edges
-edges_all parts count edges so_far = record {
-  inside = so_far.inside;
-  only = so_far.only;
-  all = λ a b (j, is). so_far.all j a b (omega arith) is;
-}
-
-pub edges_none : (parts : List Part) (count : ℕ) → EdgesSoFar parts count (length parts) []
-edges_none parts count = record {
-  inside = λ k d lt. absurd (omega arith);
-  only = λ a b (k, is). absurd (let lt = slice_get_within {A = Edge} [] k _ is in omega arith);
-  all = λ j a b le read. absurd (omega (arith, slice_get_within parts j _ read));
-}
 
 pub base_all : (parts : List Part) (count width k : ℕ) (base : List BitSet) → BaseSoFar parts count width k base → length parts ≤ k → AreFirstBase count width parts base
 base_all parts count width k base so_far all = record {

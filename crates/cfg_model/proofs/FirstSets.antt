@@ -71,16 +71,6 @@ module _ (g : Cfg) (null : BitSet) (is : IsGrammar g) (nullable_is : AreMakers f
         let (m, leads, was) = are.only n t has in
         along m n t leads (first_of_part m (T t) t (base_is m t was) ([], none))
 
-    -- what a list begins with by the rows is in its FIRST
-    pub begins_first : (u : List Sym) (t : ℕ) → AreSymbols g u → Begins rows null u t → First g u t
-    begins_first [] t symbols begins = absurd begins
-    begins_first (T a ∷ u) t symbols begins =
-        let (w, steps) = some_word u symbols.1 in
-        (w, rw begins (steps_after g (T a ∷ []) steps))
-    begins_first (N n ∷ u) t symbols (inl has) = first_before (N n ∷ []) u t symbols.1 (row_is_first n t has)
-    begins_first (N n ∷ u) t symbols (inr (vanish, begins)) =
-        first_after (N n ∷ []) u t (vanish, tt) (begins_first u t symbols.1 begins)
-
     -- what a right side begins with is in the row of the left side
     row_of_rule : (r n : ℕ) (x u : List Sym) (t : ℕ) → AllPass false (Has null) x → IsRule g r n (x ++ u) → Begins rows null u t → In rows n t
     row_of_rule r n x [] t pass rule_is begins = absurd begins

@@ -58,9 +58,6 @@ module _ (null : BitSet) where
   abbrev as_part : ℕ → Sym → Part
   as_part left s = record { left = left; symbol = s }
 
-  pub adding_none : (left : ℕ) (right : List Sym) (old : List Part) → Adding left right right old old
-  adding_none left right old = record { kept = λ p at. at; only = λ p at. inl at; more = λ s front. inr front; later = λ s front. front }
-
   module _ (left : ℕ) (right : List Sym) (c : Sym) (rest : List Sym) (old now : List Part) (before : Adding left right (c ∷ rest) old now) where
     pub adding_pass : Passes false (Has null) c → Adding left right rest old (now ++ (as_part left c ∷ []))
     adding_pass pass = record {

@@ -20,8 +20,6 @@ pub all_of_at : {A : Type 0} (P : A → Type 0) (xs : List A) → ((x : A) → A
 all_of_at P xs each = λ k d lt. each (get_or xs k d) (k, slice_get-get_or xs k d lt)
 
 module _ {A : Type 0} where
-  pub gathers_none : (old : List A) (P : A → Type 0) → ((x : A) → P x → ⊥) → Gathers old old P
-  gathers_none old P none_is = record { kept = λ x at. at; only = λ x at. inl at; more = λ x p. absurd (none_is x p) }
 
   pub gathers_same : (old now : List A) (P Q : A → Type 0) → Gathers old now P → ((x : A) → P x → Q x) → ((x : A) → Q x → P x) → Gathers old now Q
   gathers_same old now P Q before to from = record {
@@ -75,9 +73,6 @@ abbrev as_rule : ℕ → List Sym → Rule
 as_rule n w = record { left = n; right = w }
 
 module _ (left : ℕ) (w : List Sym) (old now : List Edge) where
-  pub down_terminal : (s : Sym) → ((n : ℕ) → s ≡ N n → ⊥) → Gathers old now (IsDown left w) → Gathers old now (IsDown left (s ∷ w))
-  down_terminal (T a) none_is before = before
-  down_terminal (N n) none_is before = absurd (none_is n refl)
 
   pub down_more : (n : ℕ) → Gathers old now (IsDown left w) → Gathers old (now ++ (record { from = left; to = n } ∷ [])) (IsDown left (N n ∷ w))
   down_more n before = gathers_push old now (record { from = left; to = n }) (IsDown left w) (IsDown left (N n ∷ w)) before

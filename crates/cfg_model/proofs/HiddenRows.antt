@@ -20,14 +20,6 @@ use Rattle.cfg_model.proofs.Joining.{leads_then}
 use Rattle.cfg_model.proofs.LeftPaths.{part_steps, steps_join}
 use Rattle.cfg_model.proofs.Trailing.{joins_none, joins_then, joins_same}
 
--- a symbol is below the count where it is the grammar's
-pub below_in : (g : Cfg) (u : List Sym) → All (IsSymbol g) u → All (IsBelowIn g.nonterminals) u
-below_in g u all = λ k d lt. one (get_or u k d) (all k d lt)
-  where
-    one : (s : Sym) → IsSymbol g s → IsBelowIn g.nonterminals s
-    one (T t) lt = tt
-    one (N n) lt = lt
-
 module _ (null : BitSet) (met : List BitSet) where
   -- so far: what the rest still meets is all that is missing
   pub record Hiding (left : ℕ) (right : List Sym) (behind : Bool) (rest : List Sym) (old now : List BitSet) : Type 0 where
@@ -35,9 +27,6 @@ module _ (null : BitSet) (met : List BitSet) where
     pub only : (n t : ℕ) → In now n t → In old n t ⊎ ((n ≡ left) × FrontMeets null met false right t)
     pub more : (t : ℕ) → FrontMeets null met false right t → In now left t ⊎ FrontMeets null met behind rest t
     pub later : (t : ℕ) → FrontMeets null met behind rest t → FrontMeets null met false right t
-
-  pub hiding_none : (left : ℕ) (right : List Sym) (old : List BitSet) → Hiding left right false right old old
-  hiding_none left right old = record { kept = λ n t has. has; only = λ n t has. inl has; more = λ t meets. inr meets; later = λ t meets. meets }
 
   module _ (left : ℕ) (right : List Sym) (behind : Bool) (s : Sym) (rest : List Sym) (old now new : List BitSet) (before : Hiding left right behind (s ∷ rest) old now)
       (joins : JoinsRows now new (λ n t. (n ≡ left) × IsTrue behind × Meets met s t)) where
@@ -69,17 +58,6 @@ module _ (null : BitSet) (met : List BitSet) where
         | inr (inr (pass, _)) ↦ absurd (stop pass)
       ];
     }
-
-  pub hiding_done : (left : ℕ) (right : List Sym) (behind : Bool) (rest : List Sym) (old now : List BitSet) → Hiding left right behind rest old now → rest ≡ []
-      → JoinsRows old now (λ n t. (n ≡ left) × FrontMeets null met false right t)
-  hiding_done left right behind rest old now so_far none_left = record {
-    kept = so_far.kept;
-    only = so_far.only;
-    more = λ n t (same, meets). elim (so_far.more t meets) [
-      | inl has ↦ rw same has
-      | inr left_over ↦ absurd (rw none_left at left_over)
-    ];
-  }
 
   -- what is met in front, by cutting the list
   pub record FrontPart (behind : Bool) (w : List Sym) (t : ℕ) : Type 0 where
@@ -118,8 +96,6 @@ as_rule n w = record { left = n; right = w }
 
 -- the rules before the place
 module _ (g : Cfg) (null : BitSet) (met : List BitSet) where
-  pub hidden_none : (old : List BitSet) → JoinsRows old old (IsHiddenBefore g null met 0)
-  hidden_none old = joins_none old (IsHiddenBefore g null met 0) (λ n t d. (let lt = d.before in omega arith))
 
   pub hidden_rule : (i : ℕ) (one : Rule) (old mid new : List BitSet) → slice_get g.rules i ≡ Some one → JoinsRows old mid (IsHiddenBefore g null met i)
       → JoinsRows mid new (λ n t. (n ≡ one.left) × FrontMeets null met false one.right t) → JoinsRows old new (IsHiddenBefore g null met (i + 1))

@@ -18,14 +18,6 @@ use Rattle.cfg_model.proofs.Missing.{missing_falls_more, one_of_bit, bit_of_one}
 use Rattle.std.proofs.lemmas.Nat.Bits.{bit_at-lt}
 use Rattle.std.proofs.lemmas.Bool.{cases_eq}
 
-pub zeros_most : (f : ℕ → ℕ) (k : ℕ) → zeros f k ≤ k
-zeros_most f zero = omega arith
-zeros_most f (suc k) = let rest = zeros_most f k in omega arith
-
-pub missing_most : (set : BitSet) → missing set ≤ set.size
-unfolding missing
-missing_most set = zeros_most (bit_of set) set.size
-
 -- the right side of a rule is no longer than the longest
 pub rule_fits : (g : Cfg) (longest : ℕ) → All (λ (one : Rule). length one.right ≤ longest) g.rules → (r n : ℕ) (w : List Sym) → IsRule g r n w → length w ≤ longest
 rule_fits g longest all r n w is =

@@ -8,13 +8,6 @@ use Rattle.cfg_model.specs.Cfg.{Cfg, Rule, IsRule}
 use Rattle.cfg_model.specs.within.Closing.{Passes, AllPass, IsSound, IsClosed, AreMakers, IsAdded}
 use Rattle.cfg_model.proofs.Makers.{makes_passing, makes_by_rule, has_maker}
 
--- the first symbol of the rest, and what is left
-pub pass_step : (words : Bool) (P : ℕ → Type 0) (list : List Sym) (i : ℕ) (s : Sym) → i < length list → s ≡ get_or list i s
-    → AllPass words P (drop i list) ↔ (Passes words P s × AllPass words P (drop (i + 1) list))
-pass_step words P list i s lt is =
-    let cut : drop i list ≡ s ∷ drop (i + 1) list = rw (add-one, drop-cons list i s, ← is) refl in
-    rw cut (λ p. p, λ p. p)
-
 -- after the rules before place i: the set is sound and has grown, or no rule so far adds to it
 pub record Rounding (words : Bool) (g : Cfg) (i : ℕ) (old new : BitSet) (grew : Bool) : Type 0 where
   pub size : new.size ≡ old.size

@@ -17,9 +17,6 @@ use Rattle.cfg_model.specs.within.Runs.{AreLeftEdges, AreEdgeRows, AreRuns, AreM
 use Rattle.cfg_model.proofs.FirstSets.{spread_on}
 use Rattle.cfg_model.proofs.LeftPaths.{recursive_of_row, row_of_recursive}
 
-abbrev as_edge : ℕ → ℕ → Edge
-as_edge a b = record { from = a; to = b }
-
 abbrev as_part : ℕ → Sym → Part
 as_part n s = record { left = n; symbol = s }
 
@@ -28,35 +25,6 @@ pub record EdgeRowsSoFar (edges : List Edge) (count k : ℕ) (rows : List BitSet
   pub are : AreRows count count rows
   pub only : (n m : ℕ) → In rows n m → IsEdge edges m n
   pub all : (j n m : ℕ) → j < k → slice_get edges j ≡ Some (record { from = m; to = n }) → In rows n m
-
-pub edge_rows_none : (edges : List Edge) (count : ℕ) (rows : List BitSet) → AreRows count count rows → ((n t : ℕ) → In rows n t → ⊥) → EdgeRowsSoFar edges count 0 rows
-edge_rows_none edges count rows are none_in = record { are = are; only = λ n m has. absurd (none_in n m has); all = λ j n m lt. absurd (omega arith) }
-
-pub edge_rows_more : (edges : List Edge) (count i : ℕ) (edge : Edge) (old new : List BitSet) → slice_get edges i ≡ Some edge → AreRows count count new → IsAddedAt old edge.to edge.from new
-    → EdgeRowsSoFar edges count i old → EdgeRowsSoFar edges count (i + 1) new
-edge_rows_more edges count i edge old new is are added before = record {
-  are = are;
-  only = λ n m has. elim (added.only n m has) [
-    | inl was ↦ before.only n m was
-    | inr (to, from) ↦ (i, rw (to, from) is)
-  ];
-  all = λ j n m lt read. elim (cases_eq j i) [
-    | inl at_place ↦
-        let there : slice_get edges i ≡ Some (as_edge m n) = rw at_place at read in
-        let same : as_edge m n ≡ edge = cc (there, is) in
-        let from : m ≡ edge.from = ap (λ (e : Edge). e.from) same in
-        let to : n ≡ edge.to = ap (λ (e : Edge). e.to) same in
-        rw (from, to) added.more
-    | inr other ↦ added.kept n m (before.all j n m (omega arith) read)
-  ];
-}
-
-pub edge_rows_all : (edges : List Edge) (count k : ℕ) (rows : List BitSet) → EdgeRowsSoFar edges count k rows → length edges ≤ k → AreEdgeRows count edges rows
-edge_rows_all edges count k rows so_far all = record {
-  are = so_far.are;
-  only = so_far.only;
-  all = λ n m (j, is). so_far.all j n m (omega (arith, slice_get_within edges j _ is)) is;
-}
 
 pub left_edges_are : (g : Cfg) (null : BitSet) (parts : List Part) (edges : List Edge) → AreLeftParts g null parts → AreFirstEdges g.nonterminals parts edges → AreLeftEdges g null edges
 left_edges_are g null parts edges are edges_are = record {

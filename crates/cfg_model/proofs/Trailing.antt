@@ -26,9 +26,6 @@ use Rattle.cfg_model.proofs.LeftPaths.{pass_nullable, no_word}
 use Rattle.cfg_model.proofs.Makers.{makes_passing}
 use Rattle.cfg_model.proofs.FollowSets.{base_follow, edge_follow, follow_all, first_cut, only_terminal}
 
-pub joins_none : (old : List BitSet) (P : ℕ → ℕ → Type 0) → ((m t : ℕ) → P m t → ⊥) → JoinsRows old old P
-joins_none old P none_is = record { kept = λ m t has. has; only = λ m t has. inl has; more = λ m t p. absurd (none_is m t p) }
-
 pub joins_then : (old mid new : List BitSet) (P Q R : ℕ → ℕ → Type 0) → JoinsRows old mid P → JoinsRows mid new Q
     → ((m t : ℕ) → P m t → R m t) → ((m t : ℕ) → Q m t → R m t) → ((m t : ℕ) → R m t → P m t ⊎ Q m t) → JoinsRows old new R
 joins_then old mid new P Q R a b first second from = record {
@@ -113,11 +110,6 @@ module _ (g : Cfg) (reach : BitSet) (P : List Sym → Type 0) (i : ℕ) (one : R
   ]
 
 module _ (g : Cfg) (firsts : List BitSet) (null reach : BitSet) where
-  pub behind_none : (old : List BitSet) → BehindSoFar g firsts null reach 0 old old []
-  behind_none old = record {
-    joined = joins_none old _ (λ m t (a, d). (let lt = d.before in omega arith));
-    gathered = record { kept = λ x at. at; only = λ x at. inl at; more = λ x d. absurd (let lt = d.before in omega arith) };
-  }
 
   module _ (i : ℕ) (one : Rule) (is : slice_get g.rules i ≡ Some one) (old mid : List BitSet) (edges : List Edge) (before : BehindSoFar g firsts null reach i old mid edges) where
     pub behind_rule : (new : List BitSet) (more : List Edge) → Has reach one.left → JoinsRows mid new (BeginsBehind firsts null one.right) → Gathers edges more (VanishBehind null one.left one.right)

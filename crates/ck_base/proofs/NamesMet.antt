@@ -93,21 +93,6 @@ number_of-met names (first ∷ more) name n found =
       | false ↦ number_of-met (names ++ first ∷ []) more name n (number_of-append names (first ∷ []) name n found)
     ]
 
--- what stands at a place stays there while others are met
-in_front : (names more : List (List ℕ)) (n : ℕ) (name : List ℕ) → slice_get names n ≡ Some name → slice_get (names ++ more) n ≡ Some name
-in_front [] more n name at = absurd (none-some name at)
-in_front (first ∷ names) more zero name at = at
-in_front (first ∷ names) more (suc n) name at = in_front names more n name at
-
-pub slice_get-met : (names more : List (List ℕ)) (n : ℕ) (name : List ℕ)
-    → slice_get names n ≡ Some name → slice_get (met names more) n ≡ Some name
-slice_get-met names [] n name at = at
-slice_get-met names (first ∷ more) n name at =
-    elim (is_some (number_of names first)) as (λ b. slice_get (met (if b then names else names ++ first ∷ []) more) n ≡ Some name) [
-      | true ↦ slice_get-met names more n name at
-      | false ↦ slice_get-met (names ++ first ∷ []) more n name (in_front names (first ∷ []) n name at)
-    ]
-
 -- a name that was met has a number
 pub met_has_number : (names more : List (List ℕ)) (name : List ℕ)
     → (n : ℕ) × (number_of (met names (name ∷ more)) name ≡ Some n)

@@ -27,10 +27,6 @@ element_to_map f [] i a e = absurd (none-some a e)
 element_to_map f (x ∷ xs) zero a e = ap (λ y. Some (f y)) (same_Some x a e)
 element_to_map f (x ∷ xs) (suc i) a e = element_to_map f xs i a e
 
--- none of a kind that has no value
-pub represent_none : {A : Type 0} (P : A → Type 0) (alike : A → A → Type 0) → ((a : A) → P a → ⊥) → Represents P alike []
-represent_none P alike none = record { each = λ i a is. absurd (none-some a is); apart = λ i j a b at_i. absurd (none-some a at_i); all = λ a is. absurd (none a is) }
-
 -- of two kinds, no value of the one alike to one of the other
 pub represent_both : {A : Type 0} (P Q R : A → Type 0) (alike : A → A → Type 0) (xs ys : List A)
     → Represents P alike xs → Represents Q alike ys

@@ -42,9 +42,6 @@ module _ (tables : Tables) (source : List ℕ) (first_state from : ℕ) where
   abbrev pub ScansAll : ℕ → ℕ → Scan → Type 0
   ScansAll state at found = (rules : List Rule) → GivesWinners tables rules → Scans rules source state at found
 
-  pub begins : CanDraw tables source first_state from → Walking first_state from
-  begins can = record { can = can; forward = omega arith; comes = λ tokens ending comes. comes }
-
   pub skip_forward : (state at i to after : ℕ) (w : Walking state at) → ScansAll state at (scan.Skip i to after) → (at < to) × (to ≤ length source)
   skip_forward state at i to after w scans =
       let gives = gives_none w.can.rules.list source state at i to after (scans w.can.rules.list w.can.scans.gives) in

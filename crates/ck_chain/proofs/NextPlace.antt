@@ -47,9 +47,6 @@ after_other text place byte other found is =
       column = ap (λ n. n + 1) is.column ∙ sym (column_at-other text place.at within here);
     }
 
--- lines and columns are at most one more than the bytes before the place
-pub line_at-le : (text : List ℕ) (at : ℕ) → line_at text at ≤ at + 1
-line_at-le text at = omega (arith, count_by-le-length (λ b. eqb b 10) (take at text), length-take at text)
-
+-- a column is at most one more than the bytes before the place
 pub column_at-le : (text : List ℕ) (at : ℕ) → column_at text at ≤ at + 1
 column_at-le text at = omega (arith, suffix_len-le-length (λ b. not (eqb b 10)) (take at text), length-take at text)

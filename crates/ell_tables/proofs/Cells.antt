@@ -31,16 +31,6 @@ module _ (w : ℕ) (cells : List ℕ) where
     | inr not_below ↦ rw not_below refl
   ]
 
--- nothing was seen, and all cells are free
-pub filled_none : (S : ℕ → ℕ → ℕ → Type 0) (cell : ℕ → ℕ → ℕ) → ((n t r : ℕ) → S n t r → ⊥) → ((n t : ℕ) → cell n t ≡ 0) → Filled S cell None
-filled_none S cell none_is zero_cells = record {
-  positive = λ n t r seen. absurd (none_is n t r seen);
-  none_seen = λ n t r _ seen. none_is n t r seen;
-  seen = λ n t some. absurd (let e = zero_cells n t in omega arith);
-  least = λ n t r seen. absurd (none_is n t r seen);
-  best = λ c clash. none_is c.nonterminal c.terminal c.rule clash.1;
-}
-
 module _ (rules : List Rule) (sets : List BitSet) (w k : ℕ) (one : Rule) (is : slice_get rules k ≡ Some one) where
   -- the terminal isn't in the rule's set
   pub seen_same : (t : ℕ) (cell : ℕ → ℕ → ℕ) (found : Option Clash) → (In sets k t → ⊥) → Filled (Seen rules sets k t) cell found → Filled (Seen rules sets k (t + 1)) cell found

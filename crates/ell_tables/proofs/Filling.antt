@@ -4,9 +4,6 @@ use Rattle.std.proofs.lemmas.Bool.{cases_eq, cases_lt}
 use Rattle.ell_tables.specs.declared.fill.Clash.{Clash}
 use Rattle.ell_tables.specs.within.Fill.{Clashes, Precedes, IsLeastClash, Filled}
 
-pub precedes_self : (a : Clash) → Precedes a a
-precedes_self a = inr (refl, inr (refl, inr (refl, omega arith)))
-
 pub precedes_then : (a b c : Clash) → Precedes a b → Precedes b c → Precedes a c
 precedes_then a b c (inl x) (inl y) = inl (omega arith)
 precedes_then a b c (inl x) (inr (e, y)) = inl (omega arith)

@@ -19,11 +19,6 @@ pub index_last : {A : Type 0} (xs : List A) (y d : A) → slice_index_or (xs ++ 
 index_last [] y d = refl
 index_last (x ∷ xs) y d = index_last xs y d
 
-pub index_past : {A : Type 0} (xs : List A) (d : A) (n : ℕ) → length xs ≤ n → slice_index_or xs n d ≡ d
-index_past [] d n le = refl
-index_past (x ∷ xs) d zero le = absurd (omega arith)
-index_past (x ∷ xs) d (suc n) le = index_past xs d n (omega arith)
-
 module _ (g : Cfg) (reach : BitSet) (reach_is : IsSetOf g.nonterminals (Reachable g) reach) (one : Rule) (none : BitSet) (empty : IsEmpty none) where
   pub set_none : (Has reach one.left → ⊥) → IsRuleSet g one none
   set_none lacks t = (λ has. absurd (empty t has), λ (reachable, _). absurd (lacks (reach_is.all one.left reachable)))
@@ -73,9 +68,6 @@ module _ (g : Cfg) where
           rw kept (before.each k other (omega arith) read)
     ];
   }
-
-  pub rule_sets_none : RuleSetsSoFar g [] 0
-  rule_sets_none = record { count = refl; widths = λ k d lt. absurd (omega arith); each = λ k one lt. absurd (omega arith) }
 
   pub rule_sets_all : (sets : List BitSet) (i : ℕ) → RuleSetsSoFar g sets i → i ≡ length g.rules → AreRuleSets g sets
   rule_sets_all sets i so_far all = record {

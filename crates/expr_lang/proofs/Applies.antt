@@ -23,11 +23,6 @@ use Rattle.expr_lang.specs.Evaluated.{Applied, Parts, MadeOf, cells_among, other
 use Rattle.expr_lang.specs.ValueParts.{int_part, map_part, text_part, token_part}
 use Rattle.expr_lang.proofs.Evaluates.{keeps-none, int_part-pure_of, token_part-pure_of, text_part-pure_of}
 
-pub drop_next : {A : Type 0} (xs : List A) (i : ℕ) (x : A) → i < length xs → x ≡ get_or xs i x → drop i xs ≡ x ∷ drop (suc i) xs
-drop_next [] i x within is = absurd (omega (arith, within))
-drop_next (y ∷ xs) zero x within is = ap (λ z. z ∷ xs) (sym is)
-drop_next (y ∷ xs) (suc i) x within is = drop_next xs i x (omega (arith, within)) is
-
 pub drop_end : {A : Type 0} (xs : List A) (i : ℕ) → length xs ≤ i → drop i xs ≡ []
 drop_end [] zero end = refl
 drop_end [] (suc i) end = refl
@@ -63,11 +58,6 @@ decimal_more bytes i n whole within so_far digits =
     drop_next_or [] i within = absurd (omega (arith, within))
     drop_next_or (y ∷ xs) zero within = refl
     drop_next_or (y ∷ xs) (suc i) within = drop_next_or xs i (omega (arith, within))
-
-pub set_next : {A : Type 0} (xs : List A) (n : ℕ) (v : A) → n < length xs → take (suc n) (set xs n v) ≡ take n xs ++ v ∷ []
-set_next [] n v within = absurd (omega (arith, within))
-set_next (x ∷ xs) zero v within = refl
-set_next (x ∷ xs) (suc n) v within = ap (λ ys. x ∷ ys) (set_next xs n v (omega (arith, within)))
 
 -- an argument
 pub nth-pure_of : (s l : List ℕ) (ts : List Cell) (vs : List Value) (i : ℕ) → nth (map (pure_of s l ts) vs) i ≡ pure_of s l ts (get_or vs i (value.Int (pos 0)))

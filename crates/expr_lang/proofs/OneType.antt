@@ -67,9 +67,6 @@ binary_result vars o a b t None x y never = λ u typed. (let inv = bin_inv vars 
 pub make_inv : (vars : Context) (n : ℕ) (args : Expressions) (t : ValType) (m : Maker) → maker_of vars.makers n ≡ Some m → HasType vars (make n args) t → HaveTypes vars args m.items.items
 make_inv vars n args t m at (a_make _ _ m2 ts _ at2 is of x) = subst (HaveTypes vars args) (is ∙ ap (λ q. q.items.items) (same_maker (sym at2 ∙ at))) x
 
-pub make_none : (vars : Context) (n : ℕ) (args : Expressions) (t : ValType) → maker_of vars.makers n ≡ None → HasType vars (make n args) t → ⊥
-make_none vars n args t none (a_make _ _ m2 ts _ at2 is of x) = (let e = sym at2 ∙ none in cc)
-
 pub if_inv : (vars : Context) (c a b : Expression) (t : ValType) → HasType vars (if_then c a b) t → HasType vars c ty.Bool × HasType vars a t × HasType vars b t
 if_inv vars c a b t (an_if _ _ _ _ x y z) = (x, y, z)
 

@@ -159,14 +159,3 @@ no_pairs_joined op.Minus a b = refl
 no_pairs_joined op.Times a b = refl
 no_pairs_joined op.Quotient a b = refl
 no_pairs_joined op.Remainder a b = refl
-
-pub no_pairs_applied : (w : Tokens) (f : Function) (vs : List PureValue) → (f ≡ function.Put → ⊥) → map_in (applied w f vs) ≡ []
-no_pairs_applied w function.Text vs other = refl
-no_pairs_applied w function.Line vs other = refl
-no_pairs_applied w function.Col vs other = refl
-no_pairs_applied w function.Int vs other = refl
-no_pairs_applied w function.Empty vs other = refl
-no_pairs_applied w function.Get vs other = refl
-no_pairs_applied w function.Has vs other = refl
-no_pairs_applied w function.Size vs other = refl
-no_pairs_applied w function.Put vs other = absurd (other refl)

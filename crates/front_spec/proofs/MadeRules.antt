@@ -64,9 +64,6 @@ tokens_few ds i names are =
     let long = length-met [] (tokens_in (rules_in (take i ds))) in
     let less = few_rules ds i in let same = ap length are in omega (arith, long, less, same)
 
-pub no_tokens_yet : (ds : List (Declared Saying)) (names : List (List ℕ)) → names ≡ [] → TokensSoFar ds 0 names
-no_tokens_yet ds names empty = record { are = empty; few = tokens_few ds 0 names empty }
-
 pub one_token : (ds : List (Declared Saying)) (i : ℕ) (old new : List (List ℕ)) (d : Declared Saying) → slice_get ds i ≡ Some d
     → TokensSoFar ds i old → new ≡ met old (tokens_in (add_rule d.said [])) → TokensSoFar ds (i + 1) new
 one_token ds i old new d at so are =
@@ -102,68 +99,8 @@ pub made_rule : (states tokens : List (List ℕ)) (said : SaidRule) (active : �
     → ◌≡◌ {A = Rule} (record { active = active; body = body; context = context; token = token; next = next }) (rule_by states tokens said)
 made_rule states tokens said active body context token next a b c t n = rw (a, b, c, t, n) refl
 
--- the states where a rule is active
-same_bool : (a b : Bool) → (a ≡ true → b ≡ true) → (b ≡ true → a ≡ true) → a ≡ b
-same_bool true true f g = refl
-same_bool true false f g = sym (f refl)
-same_bool false true f g = g refl
-same_bool false false f g = refl
-
-pub active_made : (old new : BitSet) (known : List (List ℕ)) (names : Option (List (List ℕ))) → IsEmpty old → AddsActive old new known names
-    → contains new ≡ active_in known names
-active_made old new known names empty adds = fun_ext (λ k. same_bool (contains new k) (active_in known names k)
-    (λ has. one k (adds.only k ((contains_has new k).0 has)))
-    (λ is. (contains_has new k).1 (adds.more k is)))
-  where
-    one : (k : ℕ) → Has old k ⊎ (active_in known names k ≡ true) → active_in known names k ≡ true
-    one k (inl has) = absurd (empty k has)
-    one k (inr is) = is
-
 pub is_same : (n k : ℕ) → (n == k) ≡ true → k ≡ n
 is_same n k is = search rules
-
-is_equal : (n k : ℕ) → k ≡ n → (n == k) ≡ true
-is_equal n k same = search rules
-
-pub std_alone : (old new : BitSet) (known : List (List ℕ)) → Adds old new (λ k. k ≡ 0) → AddsActive old new known None
-std_alone old new known adds = record {
-  size = adds.size;
-  only = λ k has. one k (adds.only k has);
-  kept = adds.kept;
-  more = λ k is. adds.more k (sym (is_same k 0 is));
-}
-  where
-    one : (k : ℕ) → Has old k ⊎ (k ≡ 0) → Has old k ⊎ (active_in known None k ≡ true)
-    one k (inl has) = inl has
-    one k (inr is) = inr (is_equal k 0 (sym is))
-
-or_false : (b : Bool) → (b || false) ≡ b
-or_false true = refl
-or_false false = refl
-
-pub one_number : (old new : BitSet) (known : List (List ℕ)) (name : List ℕ) (n : ℕ) → number_of known name ≡ Some n → Adds old new (λ k. k ≡ n)
-    → AddsActive old new known (Some (name ∷ []))
-one_number old new known name n number adds = record {
-  size = adds.size;
-  only = λ k has. one k (adds.only k has);
-  kept = adds.kept;
-  more = λ k is. adds.more k (is_same n k (let b = or_false (is_number (number_of known name) k) in rw number at (sym b ∙ is)));
-}
-  where
-    one : (k : ℕ) → Has old k ⊎ (k ≡ n) → Has old k ⊎ (active_in known (Some (name ∷ [])) k ≡ true)
-    one k (inl has) = inl has
-    one k (inr is) = inr (or_false (is_number (number_of known name) k) ∙ rw number (is_equal n k is))
-
-pub no_number : (set : BitSet) (known : List (List ℕ)) (name : List ℕ) → number_of known name ≡ None → AddsActive set set known (Some (name ∷ []))
-no_number set known name number = record {
-  size = refl;
-  only = λ k has. inl has;
-  kept = λ k has. has;
-  more = λ k is. absurd (let b = or_false (is_number (number_of known name) k) in let c = rw number at (sym b ∙ is) in cc);
-}
-
-pub nothing_added : (set : BitSet) (known : List (List ℕ)) → AddsActive set set known (Some [])
-nothing_added set known = record { size = refl; only = λ k has. inl has; kept = λ k has. has; more = λ k is. cc }
 
 pub either : (a b : Bool) → (a || b) ≡ true → (a ≡ true) ⊎ (b ≡ true)
 either true b is = inl refl

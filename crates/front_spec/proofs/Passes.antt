@@ -65,9 +65,6 @@ pub record TwiceSoFar (ds : List (Declared Saying)) (i : ℕ) (names : List (Lis
   pub few : length names ≤ i + 1
   pub none : NoneBefore ds (RexFault ds Twice) i
 
-pub nothing_twice_yet : (ds : List (Declared Saying)) (names : List (List ℕ)) → names ≡ all_states [] → TwiceSoFar ds 0 names
-nothing_twice_yet ds names are = record { are = are; few = rw are (few_states ds 0); none = none_at_first ds (RexFault ds Twice) }
-
 module _ (ds : List (Declared Saying)) (i : ℕ) (old new : List (List ℕ)) (d : Declared Saying) (at : slice_get ds i ≡ Some d) (so : TwiceSoFar ds i old) where
   with_next : new ≡ old ++ add_state d.said [] → (RexFault ds Twice i d.said → ⊥) → TwiceSoFar ds (i + 1) new
   with_next are clean =
@@ -167,26 +164,6 @@ module _ (ds : List (Declared Saying)) (i : ℕ) (old new : Counts) (d : Declare
       by : (new.positions ≡ all_positions (take (i + 1) ds)) ⊎ (4096 < all_positions (take (i + 1) ds)) → Least (HasAt ds (RexFault ds Limit)) d.number
       by (inl same) = first_here ds (RexFault ds Limit) i d grow so.none at (too_many_positions i d.said (omega (arith, more, same)))
       by (inr much) = first_here ds (RexFault ds Limit) i d grow so.none at (too_many_positions i d.said much)
-
--- a count that saturates
-pub is_count : (have exact : ℕ) → have ≡ min exact 4294967295 → IsCount have exact
-is_count have exact is = by (size exact)
-  where
-    size : (n : ℕ) → (n ≤ 4294967295) ⊎ (4294967295 < n)
-    size n = search rules
-
-    by : (exact ≤ 4294967295) ⊎ (4294967295 < exact) → IsCount have exact
-    by (inl small) = inl (omega (arith, is, small))
-    by (inr large) = inr (omega (arith, is, large), omega (arith, large))
-
-pub add_counts : (a b have more : ℕ) → IsCount a have → IsCount b more → IsCount (a + b + 1) (have + more + 1)
-add_counts a b have more (inl is) (inl is2) = inl (omega (arith, is, is2))
-add_counts a b have more (inl is) (inr is2) = let x = is2.0 in let y = is2.1 in inr (omega (arith, x), omega (arith, y))
-add_counts a b have more (inr is) other = let x = is.0 in let y = is.1 in inr (omega (arith, x), omega (arith, y))
-
-pub add_count : (before a have : ℕ) → IsCount a have → IsCount (before + a) (before + have)
-add_count before a have (inl is) = inl (omega (arith, is))
-add_count before a have (inr is) = let x = is.0 in let y = is.1 in inr (omega (arith, x), omega (arith, y))
 
 -- the end of the kinds
 no_type : (ds : List (Declared Saying)) → HasNone ds Typing

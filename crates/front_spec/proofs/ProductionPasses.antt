@@ -54,11 +54,6 @@ pub record TwiceSoFar (tokens : List (List ℕ)) (ds : List (Declared SaidProduc
   pub few : length labels ≤ i
   pub none : NoneBefore ds (GrammarFault tokens ds Twice) i
 
-pub nothing_twice_yet : (tokens : List (List ℕ)) (ds : List (Declared SaidProduction)) (labels : List (List ℕ))
-    → labels ≡ [] → TwiceSoFar tokens ds 0 labels
-nothing_twice_yet tokens ds labels are =
-    record { are = are; few = rw are (omega arith); none = none_at_first ds (GrammarFault tokens ds Twice) }
-
 pub is_fresh : (tokens old new : List (List ℕ)) (said : SaidProduction) (known its : Bool)
     → IsTrue known ↔ Contains old said.label → known ≡ false
     → IsTrue its ↔ IsTaken tokens said.left → its ≡ false → new ≡ met old (said.label ∷ [])
@@ -107,9 +102,6 @@ nothing_twice tokens ds i labels end so =
 pub record LeftsSoFar (ds : List (Declared SaidProduction)) (i : ℕ) (names : List (List ℕ)) : Type 0 where
   pub are : names ≡ nonterminals_in (take i ds)
   pub few : length names ≤ i
-
-pub no_lefts_yet : (ds : List (Declared SaidProduction)) (names : List (List ℕ)) → names ≡ [] → LeftsSoFar ds 0 names
-no_lefts_yet ds names none = record { are = none; few = rw none (omega arith) }
 
 pub one_left : (ds : List (Declared SaidProduction)) (i : ℕ) (old new : List (List ℕ)) (d : Declared SaidProduction)
     → slice_get ds i ≡ Some d
@@ -229,15 +221,6 @@ pub record LimitSoFar (tokens : List (List ℕ)) (ds : List (Declared SaidProduc
   pub count_is : count ≡ i
   pub few : count ≤ 1024
   pub none : NoneBefore ds (GrammarFault tokens ds Limit) i
-
-pub no_limit_yet : (tokens : List (List ℕ)) (ds : List (Declared SaidProduction)) (lefts : List (List ℕ)) → lefts ≡ []
-    → LimitSoFar tokens ds 0 lefts 0
-no_limit_yet tokens ds lefts none = record {
-  lefts_are = no_lefts_yet ds lefts none;
-  count_is = refl;
-  few = omega arith;
-  none = none_at_first ds (GrammarFault tokens ds Limit);
-}
 
 module _ (tokens : List (List ℕ)) (ds : List (Declared SaidProduction)) (i : ℕ) (old new : List (List ℕ)) (count next : ℕ)
     (d : Declared SaidProduction)

@@ -11,9 +11,6 @@ use Rattle.front_spec.specs.Regexes.{Written, Leaf, a_string, a_class, a_dot, Si
 use Rattle.spec_text.proofs.Readings.{behind, before, none_behind, none_before, not_behind, not_before, SomeSoFar, some_first, some_more, some_none, some_end, ListSoFar, list_first, list_more, list_end, list_none, list_none_first}
 
 -- two signs of one byte
-pub differ : (a b : ℕ) (rest more : List Lexeme) → (a ≡ b → ⊥) → sign (a ∷ []) ∷ rest ≡ sign (b ∷ []) ∷ more → ⊥
-differ a b rest more other e = other (let same : a ≡ b = cc in same)
-
 pub same_code : (a b : ℕ) (rest more : List Lexeme) → sign (a ∷ []) ∷ rest ≡ sign (b ∷ []) ∷ more → a ≡ b
 same_code a b rest more e = cc
 
@@ -334,30 +331,6 @@ module _ (depth : ℕ) (tokens rest : List Lexeme) (parts : List Regex) (greates
       → NoReading (RegexIn depth) EndsRegex tokens
   rows_none behind so at none v more follows is =
       list_none bar (RowOver (AtomIn depth)) EndsRow EndsRegex bar_ends (λ rest ends. ends.row) (λ rest ends. ends.no_bar rest refl) tokens rest behind so.written so.so at none is.is.v more follows is.is.is
-
-  rows_all : (so : RowsSoFar depth tokens rest parts greatest) → ((behind : List Lexeme) → Fixed bar rest behind → ⊥) → Reading (ListBy bar (RowOver (AtomIn depth))) EndsRegex tokens so.written rest
-  rows_all so none = list_end bar (RowOver (AtomIn depth)) EndsRow EndsRegex bar_ends (λ rest ends. ends.row) (λ rest ends. ends.no_bar rest refl) tokens rest so.written so.so none
-
-  rows_same : (w : Written) (so : RowsSoFar depth tokens rest parts greatest) → w ≡ joined alternative_of (map meaning parts) greatest → w ≡ choice_of so.written
-  rows_same w so is_w = let e = so.are.greatest_is in rw (so.are.meanings, e) is_w
-
-  pub rows_end : (w : Written) → RowsSoFar depth tokens rest parts greatest → ((behind : List Lexeme) → Fixed bar rest behind → ⊥) → w ≡ joined alternative_of (map meaning parts) greatest → w.nesting ≤ 64
-      → Reading (RegexIn depth) EndsRegex tokens w rest
-  rows_end w so none is_w within =
-      let all = rows_all so none in
-      let same = rows_same w so is_w in
-      record {
-        is = record { is = record { v = so.written; is = all.is; said = same }; within = within };
-        only = λ v more follows is. let one = all.only is.is.v more follows is.is.is in (is.is.said ∙ ap choice_of one.0 ∙ sym same, one.1);
-      }
-
-  pub rows_deep : (w : Written) → RowsSoFar depth tokens rest parts greatest → ((behind : List Lexeme) → Fixed bar rest behind → ⊥) → w ≡ joined alternative_of (map meaning parts) greatest → (w.nesting ≤ 64 → ⊥)
-      → NoReading (RegexIn depth) EndsRegex tokens
-  rows_deep w so none is_w deep v more follows is =
-      let one = (rows_all so none).only is.is.v more follows is.is.is in
-      let same : v ≡ w = is.is.said ∙ ap choice_of one.0 ∙ sym (rows_same w so is_w) in
-      let within : v.nesting ≤ 64 = is.within in
-      deep (rw same at within)
 
 pub no_rows : (depth : ℕ) (tokens : List Lexeme) → NoReading (RowOver (AtomIn depth)) EndsRow tokens → NoReading (RegexIn depth) EndsRegex tokens
 no_rows depth tokens none v more follows is =

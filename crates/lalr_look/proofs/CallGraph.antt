@@ -116,17 +116,6 @@ pub flows_are_calls : (g : Cfg) → IsGrammar g → (edges : List (List ℕ)) (s
     → Flows edges sets m a ↔ Calls g m a
 flows_are_calls g ok edges sets t m a low = (flow_calls g edges sets t m a, calls_flow g ok edges sets t m a low)
 
--- one rule more
-pub no_call : (g : Cfg) (i : ℕ) (one : Rule) → slice_get g.rules i ≡ Some one → ((k : ℕ) → slice_get one.right 0 ≡ Some (N k) → ⊥)
-    → (k n : ℕ) → CallsAt g i k n → ⊥
-no_call g i one at none k n (y, is) =
-    let same : Some one ≡ Some (record { left = n; right = N k ∷ y }) = sym at ∙ is in
-    let right : one.right ≡ N k ∷ y = right_same one (record { left = n; right = N k ∷ y }) same in
-    none k (ap (λ l. slice_get l 0) right)
-  where
-    right_same : (a b : Rule) → Some a ≡ Some b → a.right ≡ b.right
-    right_same a b e = (let f : a ≡ b = cc in ap (λ r. r.right) f)
-
 pub one_call : (g : Cfg) (i k : ℕ) (one : Rule) (old new : List (List ℕ)) → slice_get g.rules i ≡ Some one → slice_get one.right 0 ≡ Some (N k)
     → EdgeAdded old new k one.left → (j n : ℕ) → Edge new j n ↔ (Edge old j n ⊎ CallsAt g i j n)
 one_call g i k one old new at first added j n = (λ e. go (added.only j n e), back)

@@ -64,9 +64,6 @@ module _ (g : Cfg) (ok : IsGrammar g) (short : AreShort g) (all : AllProductive 
         let few = right_short g short r in
         omega (arith, low, few)
 
-    rest : List Sym
-    rest = drop (suc d) (right_of g r)
-
     pub behind_is_rest : Behind g r d (x ∷ drop (suc d) (right_of g r))
     behind_is_rest = get_drop d (right_of g r) x at
 

@@ -71,9 +71,6 @@ module _ {X : Type 0} (eq : X → X → Bool) (decides : (a b : X) → (eq a b �
     pub place_is_next : position_or_len (eq x) xs ≡ length xs
     place_is_next = position_or_len_is (eq x) xs (length xs) x (omega arith) (λ k lt. none_passes k x lt) (λ lt. absurd (omega (arith, lt)))
 
-    pub goes_last : (if list_any (eq x) xs then xs else xs ++ (x ∷ [])) ≡ xs ++ (x ∷ [])
-    goes_last = ap (λ b. if b then xs else xs ++ (x ∷ [])) (list_any_none (eq x) xs none_passes)
-
     pub apart_longer : AreApart xs → AreApart (xs ++ (x ∷ []))
     apart_longer apart i j other at_i at_j = go (value_of_longer xs x other i at_i) (value_of_longer xs x other j at_j)
       where

@@ -259,22 +259,3 @@ symbol_after g ok p x (r, d, y, item) =
 -- one prefix has one kernel; prefixes with one kernel have the same items
 pub one_kernel : (g : Cfg) (p : List Sym) (j k : List ℕ) → IsKernel g p j → IsKernel g p k → j ≡ k
 one_kernel g p j k a b = one_rising 2048 2048 j k a.rising b.rising (λ c. (λ h. (b.each c).1 ((a.each c).0 h), λ h. (a.each c).1 ((b.each c).0 h)))
-
-code_one : (r s d e : ℕ) → r < 2048 → s < 2048 → code r d ≡ code s e → (r ≡ s) × (d ≡ e)
-code_one r s d e low less is = (omega (arith, low, less, is), omega (arith, low, less, is))
-
-pub items_same : (g : Cfg) → IsGrammar g → (p q : List Sym) (k : List ℕ) → IsKernel g p k → IsKernel g q k
-    → (r d : ℕ) (y : List Sym) → Item g p r d y → Item g q r d y
-items_same g ok [] [] k a b r d y i = i
-items_same g ok [] (x ∷ q) [] a b r d y i = (let e = kernel_none g (x ∷ q) b in cc)
-items_same g ok [] (x ∷ q) (c ∷ k) a b r d y i = absurd (kernel_some g [] c k a refl)
-items_same g ok (x ∷ p) [] [] a b r d y i = (let e = kernel_none g (x ∷ p) a in cc)
-items_same g ok (x ∷ p) [] (c ∷ k) a b r d y i = absurd (kernel_some g [] c k b refl)
-items_same g ok (x ∷ p) (z ∷ q) k a b r d y i = same_kernel g x z p q over r d y i
-  where
-    over : (r d : ℕ) (y : List Sym) → Item g (x ∷ p) r (suc d) y → Item g (z ∷ q) r (suc d) y
-    over r d y i =
-        let (s, e, w, at, j) = (b.each (code r (suc d))).0 ((a.each (code r (suc d))).1 (r, d, y, refl, i)) in
-        let (er, ed) = code_one r s (suc d) (suc e) (small_rule g ok (x ∷ p) r (suc d) y i) (small_rule g ok (z ∷ q) s (suc e) w j) at in
-        let there : Item g (z ∷ q) r (suc d) w = subst₂ (λ u v. Item g (z ∷ q) u v w) (sym er) (sym ed) j in
-        subst (λ l. Item g (z ∷ q) r (suc d) l) (sym (item_behind g (z ∷ q) r (suc d) w there) ∙ item_behind g (x ∷ p) r (suc d) y i) there

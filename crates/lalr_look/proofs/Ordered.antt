@@ -59,19 +59,6 @@ meet_next ns count t =
     go k (inl l) = Contains-append_left ns (count ∷ []) k (t.each k l)
     go k (inr e) = Contains-append_right ns (count ∷ []) k (0, omega arith, sym e)
 
--- the items with the dot not in front say the whole core
-pub same_kernel : (g : Cfg) (x z : Sym) (p q : List Sym)
-    → ((r d : ℕ) (y : List Sym) → Item g (x ∷ p) r (suc d) y → Item g (z ∷ q) r (suc d) y)
-    → (r d : ℕ) (y : List Sym) → Item g (x ∷ p) r d y → Item g (z ∷ q) r d y
-same_kernel g x z p q f r d y (Item.closure _ r2 d2 n y2 s _ i is) = Item.closure _ r2 d2 n y2 s _ (same_kernel g x z p q f r2 d2 _ i) is
-same_kernel g x z p q f r d y (Item.move _ r2 d2 _ _ i) = f r d2 y (Item.move p r d2 x y i)
-
--- the first core is no other's
-pub only_first : (g : Cfg) (p : List Sym) (r d : ℕ) (y : List Sym) → Item g p r d y → r ≡ 0 → d ≡ 0 → p ≡ []
-only_first g p r d y Item.start e f = refl
-only_first g p r d y (Item.closure _ r2 d2 n y2 s _ i is) e f = let one = is.from_one in absurd (omega (arith, one, e))
-only_first g p r d y (Item.move _ r2 d2 _ _ i) e f = absurd (omega (arith, f))
-
 -- rising lists of numbers with the same members are the same
 pub climbs_above : (k : ℕ) (ns : List ℕ) → Climbs k ns → (m : ℕ) → Contains ns m → k ≤ m
 climbs_above k ns (ends _) m (i, low, is) = absurd (omega (arith, low))

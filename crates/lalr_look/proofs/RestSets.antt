@@ -103,10 +103,6 @@ pub record RestSoFar (g : Cfg) (r from place : ℕ) (old now : BitSet) : Type 0 
   pub part : (a : ℕ) → First g (rest_of g r place) a → First g (rest_of g r from) a
   pub vanish : Nullable g (rest_of g r from) ↔ Nullable g (rest_of g r place)
 
-pub rest_first : (g : Cfg) (r from : ℕ) (set : BitSet) → RestSoFar g r from from set set
-rest_first g r from set =
-    record { size = refl; only = λ a h. inl h; kept = λ a h. h; more = λ a f. inr f; part = λ a f. f; vanish = (λ h. h, λ h. h) }
-
 module _ (g : Cfg) (ok : IsGrammar g) (all : AllProductive g) (r from place : ℕ) (x : Sym) (old now next : BitSet)
     (at : slice_get (right_of g r) place ≡ Some x) (t : RestSoFar g r from place old now) (adds : Adds now next (First g (x ∷ []))) where
   both : (a : ℕ) → First g (rest_of g r place) a ↔ (First g (x ∷ []) a ⊎ (Nullable g (x ∷ []) × First g (rest_of g r (suc place)) a))

@@ -66,10 +66,6 @@ adds_called g c m old new from next is adds =
     same : (k : ℕ) → NextIs g c (N k) → k ≡ m
     same k other = (let one : Some (N k) ≡ Some (N m) = sym other ∙ next in cc)
 
-pub adds_nothing : (g : Cfg) (c : ℕ) (set : BitSet) → ((m : ℕ) → NextIs g c (N m) → ⊥) → Adds set set (CalledAt g c)
-adds_nothing g c set none =
-    record { size = refl; only = λ i h. inl h; kept = λ i h. h; more = λ i called. absurd (none called.0 called.1) }
-
 pub row_none : (g : Cfg) (items : List ℕ) (first known : List (List ℕ)) (row : List (Sym × ℕ)) (i : ℕ) (kernel : List ℕ)
     → Moves g items i (length items) kernel → length kernel ≡ 0 → Rows g items first i known row → Rows g items first (i + 1) known row
 row_none g items first known row i [] m e rows = Rows.none i known row rows m

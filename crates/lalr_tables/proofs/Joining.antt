@@ -45,13 +45,6 @@ module _ (g : Cfg) (cores : CoreList) (looks : List (List BitSet)) where
     | inr other ↦ inl (m, omega (arith, low, other), clash)
   ]
 
-  pub actions_none : AreActions g cores looks 0 [] None
-  actions_none = record {
-    long = omega arith;
-    each = λ n low. absurd (omega (arith, low));
-    best = λ c (n, low, clash). omega (arith, low);
-  }
-
   pub actions_more : (n : ℕ) (cells row new : List ℕ) (found met after : Option Clash)
       → IsRow g (items_at cores n) (moves_at cores n) (sets_at looks n) (length (items_at cores n)) row met
       → new ≡ cells ++ row → IsLesserOf found met after → AreActions g cores looks n cells found
@@ -75,9 +68,6 @@ module _ (g : Cfg) (cores : CoreList) (looks : List (List BitSet)) where
 module _ (g : Cfg) (cores : CoreList) where
   abbrev IsGoto : ℕ → ℕ → ℕ → Type 0
   IsGoto n t cell = GotoIs (OverNonterminal (moves_at cores n)) t cell
-
-  pub gotos_none : AreGotoRows g cores 0 []
-  gotos_none = record { long = omega arith; each = λ n low. absurd (omega (arith, low)) }
 
   pub gotos_more : (n : ℕ) (cells row new : List ℕ) → length row ≡ g.nonterminals
       → AreGotos g.nonterminals (OverNonterminal (moves_at cores n)) (slice_index row)

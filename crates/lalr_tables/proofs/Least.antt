@@ -66,7 +66,3 @@ least_both C D found (Some k) after is first (there, least) =
 pub clashes_map : (M R Q : ℕ → ℕ → Type 0) (t r : ℕ) (o : Option ℕ) → ((s : ℕ) → R t s → Q t s) → ClashesOn M R t r o → ClashesOn M Q t r o
 clashes_map M R Q t r None to (x, m) = (to r x, m)
 clashes_map M R Q t r (Some s) to (x, y, differ) = (to r x, to s y, differ)
-
-pub moves_map : (M L R : ℕ → ℕ → Type 0) (t r : ℕ) (o : Option ℕ) → ((m : ℕ) → M t m → L t m) → ClashesOn M R t r o → ClashesOn L R t r o
-moves_map M L R t r None to (x, (m, y)) = (x, (m, to m y))
-moves_map M L R t r (Some s) to (x, y, differ) = (x, y, differ)

@@ -16,8 +16,6 @@ same_symbol : (x y : Sym) (m k : ℕ) → ◌≡◌ {A = Option (Sym × ℕ)} (S
 same_symbol x y m k e = ap (λ (z : Sym × ℕ). z.0) (same_Some (x, m) (y, k) e)
 
 module _ (moves : List (Sym × ℕ)) where
-  among_none : (x : Sym) (m : ℕ) → AmongFirst moves 0 x m → ⊥
-  among_none x m (j, low, is) = omega (arith, low)
 
   among_more : (i : ℕ) (x : Sym) (m : ℕ) → AmongFirst moves i x m → AmongFirst moves (i + 1) x m
   among_more i x m (j, low, is) = (j, omega (arith, low), is)
@@ -33,9 +31,6 @@ module _ (moves : List (Sym × ℕ)) where
 
   pub all_among : (i : ℕ) (x : Sym) (m : ℕ) → length moves ≤ i → Contains moves (x, m) → AmongFirst moves i x m
   all_among i x m all (j, low, is) = (j, omega (arith, low, all), placed moves j (x, m) low is)
-
-  pub shifts_none : (width : ℕ) (cells : List ℕ) → ((t : ℕ) → slice_index cells t ≡ 0) → AreCells width (λ t. AmongFirst moves 0 (T t)) NoRule (slice_index cells)
-  shifts_none width cells zeros t low = free (zeros t) (λ m. among_none (T t) m) (λ r x. x)
 
   shift_here : (i s k width : ℕ) (old : List ℕ) → slice_get moves i ≡ Some (T s, k) → s < length old
       → AreCells width (λ t. AmongFirst moves i (T t)) NoRule (slice_index old)
@@ -67,9 +62,6 @@ module _ (moves : List (Sym × ℕ)) where
   shifts_all i width cells all is t low =
       cell_same (λ t. AmongFirst moves i (T t)) (OverTerminal moves) NoRule NoRule t (slice_index cells t) (λ m. among_all i (T t) m all) (λ m. all_among i (T t) m all)
       (λ r x. x) (λ r x. x) (is t low)
-
-  pub gotos_none : (width : ℕ) (cells : List ℕ) → AreGotos width (λ n. AmongFirst moves 0 (N n)) (slice_index cells)
-  gotos_none width cells n low = nowhere (λ m. among_none (N n) m)
 
   goto_kept : (i n c : ℕ) (x : Sym) (k : ℕ) → slice_get moves i ≡ Some (x, k) → (N n ≡ x → ⊥) → GotoIs (λ n. AmongFirst moves i (N n)) n c
       → GotoIs (λ n. AmongFirst moves (i + 1) (N n)) n c

@@ -159,34 +159,6 @@ where_word : (w name : List ℕ) (k : ℕ) → slice_get item_words k ≡ Some w
 where_word w name k at is =
     let same = (bytes_eq-Decides name w).0 is in subst (λ n. Contains item_words n) (sym same) (contained_at item_words w k at)
 
-one_true : (a b c d : Bool) → a || (b || (c || d)) ≡ true → (a ≡ true) ⊎ ((b ≡ true) ⊎ ((c ≡ true) ⊎ (d ≡ true)))
-one_true true b c d is = inl refl
-one_true false true c d is = inr (inl refl)
-one_true false false true d is = inr (inr (inl refl))
-one_true false false false d is = inr (inr (inr is))
-
-pub word_there : (name : List ℕ) → item_word name ≡ true → Contains item_words name
-word_there name is =
-    by (one_true (bytes_eq name (codes "int")) (bytes_eq name (codes "bool")) (bytes_eq name (codes "text"))
-    (bytes_eq name (codes "map")) is)
-  where
-    by : (bytes_eq name (codes "int") ≡ true) ⊎ ((bytes_eq name (codes "bool") ≡ true)
-        ⊎ ((bytes_eq name (codes "text") ≡ true) ⊎ (bytes_eq name (codes "map") ≡ true))) → Contains item_words name
-    by (inl is) = where_word (codes "int") name 0 refl is
-    by (inr (inl is)) = where_word (codes "bool") name 1 refl is
-    by (inr (inr (inl is))) = where_word (codes "text") name 2 refl is
-    by (inr (inr (inr is))) = where_word (codes "map") name 3 refl is
-
-pub word_where : (name : List ℕ) → Contains item_words name → item_word name ≡ true
-word_where name there = let at = place_of item_words name there in by at.0 at.1
-  where
-    by : (k : ℕ) → slice_get item_words k ≡ Some name → item_word name ≡ true
-    by zero at = let it : codes "int" ≡ name = cc in rw (← it) refl
-    by (suc zero) at = let it : codes "bool" ≡ name = cc in rw (← it) refl
-    by (suc (suc zero)) at = let it : codes "text" ≡ name = cc in rw (← it) refl
-    by (suc (suc (suc zero))) at = let it : codes "map" ≡ name = cc in rw (← it) refl
-    by (suc (suc (suc (suc k)))) at = cc
-
 -- nothing is past a limit so far
 pub record LimitSoFar (ds : List (Declared AstSaying)) (i families types : ℕ) : Type 0 where
   pub families_are : families ≡ length (families_in (take i ds))

@@ -1,4 +1,4 @@
--- Places in lists; the types of the first lines, and the first type of each name.
+-- Places in lists; the first type of each name.
 use Rattle.std.proofs.Common.{◌≡◌, ℕ, zero, suc, ◌+◌, ◌<◌, ◌≤◌, Bool, true, false, cond, if◌then◌else◌, List, [], ◌∷◌, ◌++◌, length, take, drop, map, get_or, refl, sym, ap, ◌∙◌, Option, Some, None, is_some, arith, length-append}
 use Rattle.std.specs.List.{slice_get, position_from}
 use Rattle.std.specs.Str.{bytes_eq}
@@ -18,18 +18,7 @@ use Rattle.node_spec.specs.declared.rows.FirstRows.{FirstRows}
 use Rattle.node_spec.specs.declared.rows.TypeRow.{TypeRow}
 use Rattle.node_spec.specs.within.AstSeen.{declared_by, item_seen, row_seen}
 use Rattle.node_spec.specs.within.AstTwice.{AreFirstRows, first_row, row_numbered, rows_after}
-
--- what stands in front stays at its place
-pub get_in_front : {X : Type 0} (xs more : List X) (n : ℕ) (x : X) → slice_get xs n ≡ Some x → slice_get (xs ++ more) n ≡ Some x
-get_in_front [] more n x at = cc
-get_in_front (y ∷ xs) more zero x at = at
-get_in_front (y ∷ xs) more (suc n) x at = get_in_front xs more n x at
-
-pub get_at_end : {X : Type 0} (xs more : List X) (n : ℕ) (x : X) → n ≡ length xs → slice_get (xs ++ x ∷ more) n ≡ Some x
-get_at_end [] more zero x is = refl
-get_at_end [] more (suc n) x is = absurd (omega (arith, is))
-get_at_end (y ∷ xs) more zero x is = absurd (omega (arith, is))
-get_at_end (y ∷ xs) more (suc n) x is = get_at_end xs more n x (omega (arith, is))
+use Rattle.node_spec.proofs.AstLists.{get_in_front, get_at_end, rows_in-step}
 
 -- what stands among the first ones stands there in the whole
 pub from_take : {X : Type 0} (xs : List X) (i n : ℕ) (x : X) → slice_get (take i xs) n ≡ Some x
@@ -192,46 +181,6 @@ pub row_is_called : (rows : List Row) (row : TypeRow) (name base : List ℕ) (ow
 row_is_called rows row name base own None is = ap (λ r. r.name) is
 row_is_called rows row name base own (Some b) is = ap (λ r. r.name) is
 
--- the types of the first lines
-pub rows_from-append : (rows : List Row) (xs ys : List (Declared AstSaying))
-    → rows_from rows (xs ++ ys) ≡ rows_from (rows_from rows xs) ys
-rows_from-append rows [] ys = refl
-rows_from-append rows (d ∷ xs) ys = rows_from-append (row_after rows d.said) xs ys
-
-pub next_rows : (ds : List (Declared AstSaying)) (i : ℕ) (d : Declared AstSaying) → slice_get ds i ≡ Some d
-    → rows_in (take (i + 1) ds) ≡ row_after (rows_in (take i ds)) d.said
-next_rows ds i d at = ap rows_in (take_step ds i d at) ∙ rows_from-append [] (take i ds) (d ∷ [])
-
-row_after_kept : (rows : List Row) (said : AstSaying) (k : ℕ) (row : Row) → slice_get rows k ≡ Some row
-    → slice_get (row_after rows said) k ≡ Some row
-row_after_kept rows (family name) k row at = at
-row_after_kept rows (target name) k row at = at
-row_after_kept rows (a_type name base own) k row at = get_in_front rows (row_of rows name base own ∷ []) k row at
-row_after_kept rows (node nonterminal name) k row at = at
-row_after_kept rows (build label e) k row at = at
-
-rows_kept : (rows : List Row) (ds : List (Declared AstSaying)) (k : ℕ) (row : Row) → slice_get rows k ≡ Some row
-    → slice_get (rows_from rows ds) k ≡ Some row
-rows_kept rows [] k row at = at
-rows_kept rows (d ∷ ds) k row at = rows_kept (row_after rows d.said) ds k row (row_after_kept rows d.said k row at)
-
--- the type of a line stands behind those of the lines before it
-pub row_of_line : (ds : List (Declared AstSaying)) (i : ℕ) (d : Declared AstSaying) (name base : List ℕ)
-    (own : List SaidItem) → slice_get ds i ≡ Some d → d.said ≡ a_type name base own
-    → slice_get (rows_in ds) (length (rows_in (take i ds))) ≡ Some (row_at ds i name base own)
-row_of_line ds i d name base own at is =
-    rw (whole, here) (rows_kept (before ++ row_at ds i name base own ∷ []) (drop (i + 1) ds) (length before)
-    (row_at ds i name base own) (get_at_end before [] (length before) (row_at ds i name base own) refl))
-  where
-    before : List Row
-    before = rows_in (take i ds)
-
-    here : rows_in (take (i + 1) ds) ≡ rows_in (take i ds) ++ row_at ds i name base own ∷ []
-    here = next_rows ds i d at ∙ ap (row_after (rows_in (take i ds))) is
-
-    whole : rows_in ds ≡ rows_from (rows_in (take (i + 1) ds)) (drop (i + 1) ds)
-    whole = ap rows_in (sym (take-append-drop (i + 1) ds)) ∙ rows_from-append [] (take (i + 1) ds) (drop (i + 1) ds)
-
 -- the rows of the first i lines
 pub record RowsSoFar (ds : List (Declared AstSaying)) (i : ℕ) (firsts : FirstRows) (rows : List TypeRow) : Type 0 where
   pub are : map row_seen rows ≡ rows_in (take i ds)
@@ -251,7 +200,7 @@ pub one_line_more : (ds : List (Declared AstSaying)) (i : ℕ) (old new : FirstR
     → map row_seen longer ≡ row_after (map row_seen rows) d.said → AreFirstRows new (row_names (map row_seen longer))
     → RowsSoFar ds (i + 1) new longer
 one_line_more ds i old new rows longer d at so are firsts = record {
-  are = are ∙ ap (λ l. row_after l d.said) so.are ∙ sym (next_rows ds i d at);
+  are = are ∙ ap (λ l. row_after l d.said) so.are ∙ sym (rows_in-step ds i d at);
   few = few;
   firsts_are = firsts;
 }

@@ -18,7 +18,8 @@ use Rattle.node_spec.specs.declared.again.Sort.{Sort}
 use Rattle.node_spec.specs.declared.rows.TypeRow.{TypeRow}
 use Rattle.node_spec.specs.within.AstSeen.{item_seen, row_seen}
 use Rattle.node_spec.specs.within.AstTwice.{IsAgain, IsMet, again, fresh, Meets, name_before, name_said, names_said, HasDouble, HasReserved, IsReserved, of_name, of_item, HasItemTwice, item_again, RepeatsItem, repeats}
-use Rattle.node_spec.proofs.AstTwiceLists.{from_take, next_rows, row_of_line}
+use Rattle.node_spec.proofs.AstLists.{rows_in-step, row_of_line}
+use Rattle.node_spec.proofs.AstTwiceLists.{from_take}
 
 -- elements of a list, one after the other
 module _ {X : Type 0} (P : X → Type 0) (xs : List X) where
@@ -156,15 +157,6 @@ is_double all i old new name at so _ is_found (again there) =
     }
 is_double all i old new name at so _ is_found (fresh absent are) = cc
 
-pub not_twice : (all : List (List ℕ)) (name : List ℕ) → AreApart all → IsTwice all name → ⊥
-not_twice all name apart is =
-    let same = apart is.first is.second name is.at_first is.at_second in let less = is.order in omega (arith, same, less)
-
-pub no_double : (all : List (List ℕ)) (i : ℕ) (names : List (List ℕ)) → i ≡ length all → ApartSoFar all i names
-    → HasDouble all → ⊥
-no_double all i names end so has =
-    not_twice all has.name (subst AreApart (so.are ∙ take_all all i end) so.apart) has.twice
-
 -- the end of a list that is seen
 pub map_end : {X Y : Type 0} (f : X → Y) (xs : List X) (i : ℕ) → i ≤ length xs → length xs ≤ i → i ≡ length (map f xs)
 map_end f xs i less more = let long = length-map xs f in omega (arith, less, more, long)
@@ -231,12 +223,6 @@ reserved_type i name base items is means = (λ yes. to (means.0 yes), λ has. me
     by (of_name _ _ _ (of_type _ _ _) there) = inl there
     by (of_item _ _ _ _ has) = inr has
 
-pub reserved_node : (i : ℕ) (nonterminal name : List ℕ) → IsReserved i (node nonterminal name) → ⊥
-reserved_node i nonterminal name (of_name _ _ _ declares there) = elim declares [ ]
-
-pub reserved_build : (i : ℕ) (label : List ℕ) (e : Spoken) → IsReserved i (build label e) → ⊥
-reserved_build i label e (of_name _ _ _ declares there) = elim declares [ ]
-
 -- the type of a line has an item twice
 pub item_twice_of : (ds : List (Declared AstSaying)) (i types : ℕ) (d : Declared AstSaying) → slice_get ds i ≡ Some d
     → types ≡ length (rows_in (take i ds)) → RepeatsItem (rows_in ds) types d.said ↔ HasItemTwice ds i d.said
@@ -269,7 +255,7 @@ module _ (ds : List (Declared AstSaying)) (i types : ℕ) (d : Declared AstSayin
       → ((rows : List Row) → length (row_after rows d.said) ≡ length rows + more) → ItemsSoFar ds (i + 1) next
   step_item next more not_found next_is most counted = record {
     count =
-        let before = so.count in let all = counted (rows_in (take i ds)) in let new = ap length (next_rows ds i d at) in
+        let before = so.count in let all = counted (rows_in (take i ds)) in let new = ap length (rows_in-step ds i d at) in
         omega (arith, next_is, before, all, new);
     few = let few = so.few in omega (arith, few, next_is, most);
     none =

@@ -18,7 +18,8 @@ use Rattle.node_spec.specs.within.AstSeen.{item_seen, row_seen}
 use Rattle.node_spec.specs.within.AstWalks.{FitsOver, FitsRow, families_said, with_family}
 use Rattle.node_spec.specs.declared.ast_line.ItemText.{ItemText}
 use Rattle.node_spec.specs.declared.rows.TypeRow.{TypeRow}
-use Rattle.node_spec.proofs.AstRowLists.{last_get, next_families, next_family_count}
+use Rattle.node_spec.proofs.AstLists.{get_at_end}
+use Rattle.node_spec.proofs.AstRowLists.{next_families, next_family_count}
 
 -- a name that stands somewhere is found
 found_from : (names : List (List ℕ)) (name : List ℕ) (j k : ℕ) → slice_get names k ≡ Some name
@@ -82,7 +83,7 @@ one_more rows new each its k b row at base = by (order k (length rows))
     by (inr (inl more)) =
         let fits = get_fits (rows ++ new ∷ []) k row at in absurd (omega (arith, fits, more, length-append rows (new ∷ [])))
     by (inr (inr same)) =
-        let here = last_get rows [] new in
+        let here = get_at_end rows [] (length rows) new refl in
         let it : new ≡ row = (let a = rw same at at in let b = sym here ∙ a in cc) in
         let all : take (length rows) (rows ++ new ∷ []) ≡ rows = take-append-le (length rows) rows (new ∷ []) (omega arith) ∙ take_all rows (length rows) refl in
         rw (same, all) (subst (λ r. StandsOn rows r b) it (its b (subst (λ r. r.base ≡ Some b) (sym it) base)))
@@ -137,27 +138,10 @@ pub fits_row : (ds : List (Declared AstSaying)) (fs : List (List ℕ)) (i : ℕ)
     → FitsRow fs (map (type_of_row fs) (take i (rows_in ds))) row
 fits_row ds fs i row at = fits_with fs (take i (rows_in ds)) row row.base (λ b is. rows_stand ds i b row at is)
 
--- a row that fits has its base, and no fewer items than it
-pub base_there : (fs : List (List ℕ)) (types : List NodeType) (row : Row) (o : Option ℕ) → FitsOver fs types row o → BaseIsThere types o
-base_there fs types row None fits = tt
-base_there fs types row (Some b) fits = fits.0
-
-pub base_fits : (fs : List (List ℕ)) (types : List NodeType) (row : Row) (o : Option ℕ) → FitsOver fs types row o
-    → BaseFits types (family_number fs row.family) o
-base_fits fs types row None fits = tt
-base_fits fs types row (Some b) fits = (fits.0, fits.1)
-
 begins : (fs : List (List ℕ)) (types : List NodeType) (row : Row) (o : Option ℕ) → FitsOver fs types row o
     → (own : List Item) × (map (item_of fs) row.items ≡ base_items types o ++ own)
 begins fs types row None fits = (map (item_of fs) row.items, refl)
 begins fs types row (Some b) fits = fits.2
-
-pub base_shorter : (fs : List (List ℕ)) (types : List NodeType) (row : Row) (o : Option ℕ) → FitsOver fs types row o
-    → length (base_items types o) ≤ length row.items
-base_shorter fs types row o fits =
-    let own = begins fs types row o fits in
-    let long : length (map (item_of fs) row.items) ≡ length (base_items types o) + length own.0 = ap length own.1 ∙ length-append (base_items types o) own.0 in
-    omega (arith, long, length-map row.items (item_of fs))
 
 behind : {X : Type 0} (first own : List X) → drop (length first) (first ++ own) ≡ own
 behind [] own = refl

@@ -15,6 +15,7 @@ use Rattle.cfg_model.specs.declared.symbol.Sym.{Sym}
 use Rattle.cfg_model.specs.declared.symbol.Sym.TheVariants.{T, N}
 use Rattle.node_spec.specs.AstBuilds.{nonterminal_places}
 use Rattle.node_spec.specs.within.AstUnknown.{names_nonterminal, NextPlace, no_place, a_place}
+use Rattle.node_spec.proofs.AstLists.{get_in_front}
 
 -- no nonterminal stands from one place up to another
 pub record NonePassed (right : List Sym) (from i : ℕ) : Type 0 where
@@ -50,19 +51,13 @@ pub nothing_passed : (right : List Sym) (from i : ℕ) → length right ≤ i �
     → NextPlace right from None
 nothing_passed right from i end so = no_place (so.same ∙ ap (nonterminal_places i) (drop_all i right end))
 
--- a name stands at a place of what follows, and in front
+-- a name stands at a place of what follows
 pub get_behind : (xs ys : List (List ℕ)) (i : ℕ) (name : List ℕ) → slice_get ys i ≡ Some name
     → slice_get (xs ++ ys) (length xs + i) ≡ Some name
 get_behind [] ys i name at = ap (slice_get ys) (omega arith) ∙ at
 get_behind (x ∷ xs) ys i name at =
     ap (slice_get (x ∷ (xs ++ ys))) (let e : suc (length xs) + i ≡ suc (length xs + i) = omega arith in e)
     ∙ get_behind xs ys i name at
-
-pub get_in_front : (xs ys : List (List ℕ)) (i : ℕ) (name : List ℕ) → slice_get xs i ≡ Some name
-    → slice_get (xs ++ ys) i ≡ Some name
-get_in_front [] ys i name at = cc
-get_in_front (x ∷ xs) ys zero name at = at
-get_in_front (x ∷ xs) ys (suc i) name at = get_in_front xs ys i name at
 
 -- names that are apart are met as they stand
 pub met_as_they_stand : (xs ys : List (List ℕ)) → AreApart (xs ++ ys) → met xs ys ≡ xs ++ ys

@@ -91,19 +91,12 @@ chain_end p left tokens rest e deep so none = record { is = so.on e rest (ends p
 
 -- prefixes
 module _ (left : ℕ) (tokens : List Lexeme) (none : NoPrefix tokens) where
-  pub plain_none : NoneRead (Whole 7) left tokens → NoneRead (Whole 6) left tokens
-  plain_none absent e rest is few = absent e rest (no_prefix_parts tokens rest e none (prefixed_at 6 tokens rest e refl is)) few
 
   pub plain_read : (rest : List Lexeme) (e : Spoken) (deep : ℕ) → IsRead (Whole 7) left tokens e deep rest → IsRead (Whole 6) left tokens e deep rest
   plain_read rest e deep read =
       record { is = prefixed 6 tokens rest e refl (no_prefix tokens rest e none read.is); deep_is = read.deep_is; within = read.within }
 
 module _ (left : ℕ) (s : Prefix) (tokens after : List Lexeme) (first : tokens ≡ sign (prefix_glyph s) ∷ after) (some : 0 < left) where
-  pub prefix_none : NoneRead (Whole 6) (left - 1) after → NoneRead (Whole 6) left tokens
-  prefix_none none e rest is few =
-      let its = prefix_parts s tokens after rest e first (prefixed_at 6 tokens rest e refl is) in
-      let deep = ap nesting its.is ∙ prefix_nesting s its.a in
-      none its.a rest its.whole (omega (arith, deep, few, some))
 
   pub prefix_read : (rest : List Lexeme) (a : Spoken) (deep : ℕ) → IsRead (Whole 6) (left - 1) after a deep rest → (e : Spoken) → e ≡ with_prefix s a → (most : ℕ) → most ≡ deep + 1
       → IsRead (Whole 6) left tokens e most rest

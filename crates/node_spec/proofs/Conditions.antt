@@ -12,16 +12,12 @@ use Rattle.node_spec.proofs.FromWhole.{from_whole}
 
 -- an expression of the loosest level begins with `if`, or not
 module _ (left : ℕ) (tokens : List Lexeme) (none : NotFirst (word (codes "if")) tokens) where
-  pub other_none : NoneRead (Whole 1) left tokens → NoneRead (Whole 0) left tokens
-  other_none absent e rest is few = absent e rest (no_if_parts tokens rest e none (loosest_at 0 tokens rest e refl is)) few
 
   pub other_read : (rest : List Lexeme) (e : Spoken) (deep : ℕ) → IsRead (Whole 1) left tokens e deep rest → IsRead (Whole 0) left tokens e deep rest
   other_read rest e deep read =
       record { is = loosest 0 tokens rest e refl (no_conditional tokens rest e none read.is); deep_is = read.deep_is; within = read.within }
 
 module _ (left : ℕ) (tokens after : List Lexeme) (first : Fixed (word (codes "if")) tokens after) where
-  pub behind_if_none : NoneRead Conditional left after → NoneRead (Whole 0) left tokens
-  behind_if_none absent e rest is few = absent e rest (rw (sym first) (loosest_at 0 tokens rest e refl is)) few
 
   pub behind_if_read : (rest : List Lexeme) (e : Spoken) (deep : ℕ) → IsRead Conditional left after e deep rest → IsRead (Whole 0) left tokens e deep rest
   behind_if_read rest e deep read =
@@ -43,10 +39,6 @@ parts : (after rest : List Lexeme) (e : Spoken) → Conditional after e rest →
 parts after rest e is = if_parts (word (codes "if") ∷ after) after rest e refl is
 
 module _ (left : ℕ) (after : List Lexeme) where
-  pub no_test : NoneRead (Whole 0) (left - 1) after → NoneRead Conditional left after
-  no_test none e rest is few =
-      let its = parts after rest e is in
-      none its.c (word (codes "then") ∷ its.after_then) its.test (within left e its.c its.a its.b its.is few).test
 
   module _ (c : Spoken) (deep_c : ℕ) (end : List Lexeme) (test : IsRead (Whole 0) (left - 1) after c deep_c end) where
     pub no_then : ((rest : List Lexeme) → Fixed (word (codes "then")) end rest → ⊥) → NoneRead Conditional left after

@@ -24,7 +24,8 @@ use Rattle.spec_text.proofs.Lists.{all_at}
 use Rattle.node_spec.specs.AstShapes.{AstSaying, SaidItem, a_type}
 use Rattle.node_spec.specs.AstTables.{families_in, family_names, family_number, item_type, item_of, row_names, rows_in}
 use Rattle.node_spec.specs.AstFaults.{AstFault, item_words, is_target, row_at, no_base, no_item_type, map_item, item_of_other_side}
-use Rattle.node_spec.proofs.AstLists.{family_names-append, front_or_behind}
+use Rattle.node_spec.proofs.AstLists.{family_names-append}
+use Rattle.node_spec.proofs.AstUnknownLists.{first_or_later}
 use Rattle.node_spec.proofs.AstRows.{each_row, over_base, without_base, base_there}
 
 -- no line has a fault of the kind
@@ -123,7 +124,7 @@ node_type names w f is = (none, parts.4)
 
     or_more : (first : List ℕ) (words : List (List ℕ)) → bytes_eq w first ≡ false → (Contains words w → ⊥)
         → Contains (first ∷ words) w → ⊥
-    or_more first words not later has = by (front_or_behind words first w has)
+    or_more first words not later has = by (first_or_later first words w has)
       where
         by : (first ≡ w) ⊎ Contains words w → ⊥
         by (inl same) = different w first not same

@@ -72,15 +72,6 @@ pub none_stands : (file : List ℕ) (tokens : List SpecToken) (at : ℕ) (views 
 none_stands file tokens at views each none said are = λ e rest follows is.
     none e rest follows (subst (λ ts. IsSpoken ts e rest) (sym (each said are)) is)
 
--- the scope has a name for each maker, and few variables
-pub words_fit : (s : NameScope) (words : Vocabulary) → words ≡ vocabulary_of s → length s.names.now ≡ length s.scope.vars.now + length s.scope.makers.now
-    → length s.scope.vars.now < 2 ^ 32 → (length words.makers ≡ length words.types) × (length words.variables < 2 ^ 32)
-words_fit s words is names few =
-    let makers = ap (λ w. length w.makers) is ∙ length-drop (length s.scope.vars.now) s.names.now in
-    let types = ap (λ w. length w.types) is ∙ length-map s.scope.makers.now (λ m. m.ty) in
-    let variables = ap (λ w. length w.variables) is ∙ length-take (length s.scope.vars.now) s.names.now in
-    (omega (arith, makers, types, names), omega (arith, variables, few, names))
-
 -- what is said of a vocabulary that is the scope's
 module _ (words v : Vocabulary) (is : words ≡ v) (e : Spoken) where
   pub unknown_told : (answer told : Bool) → answer ≡ has_unknown words.makers e → answer ≡ told → has_unknown v.makers e ≡ told

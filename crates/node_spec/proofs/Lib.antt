@@ -27,7 +27,6 @@ mod Chains
 mod Conditions
 mod Ends
 mod ExpressionExamples
-mod FamiliesKnown
 mod FitItems
 mod FitsGrammar
 mod FirstLines

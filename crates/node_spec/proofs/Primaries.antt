@@ -14,19 +14,12 @@ leaf_read left tokens rest e is flat some =
 
 -- in parentheses
 module _ (left : ℕ) (tokens after : List Lexeme) (first : Fixed (sign (codes "(")) tokens after) where
-  pub group_none : NoneRead Grouping left after → NoneRead (Whole 7) left tokens
-  group_none none e rest is few = none e rest (rw (sym first) (primary_at 7 tokens rest e refl is)) few
 
   pub group_read : (rest : List Lexeme) (e : Spoken) (deep : ℕ) → IsRead Grouping left after e deep rest → IsRead (Whole 7) left tokens e deep rest
   group_read rest e deep read =
       let its = read.is in record { is = primary 7 tokens rest e refl (rw first its); deep_is = read.deep_is; within = read.within }
 
 module _ (left : ℕ) (tokens : List Lexeme) where
-  pub no_part : NoneRead (Whole 0) (left - 1) tokens → NoneRead Grouping left tokens
-  no_part none e rest is few =
-      let its = group_parts (sign (codes "(") ∷ tokens) tokens rest e refl is in
-      let deep : nesting e ≡ nesting its.a + 1 = ap nesting its.is in
-      none its.a (sign (codes ")") ∷ rest) its.whole (omega (arith, deep, few))
 
   module _ (end : List Lexeme) (a : Spoken) (deep : ℕ) (read : IsRead (Whole 0) (left - 1) tokens a deep end) where
     pub no_close : ((rest : List Lexeme) → Fixed (sign (codes ")")) end rest → ⊥) → NoneRead Grouping left tokens
@@ -47,25 +40,6 @@ module _ (left : ℕ) (tokens : List Lexeme) where
           within = omega (arith, is_most, within, some);
         }
 
--- what no leaf, no `(` and no name begins is no such expression
-no_leaf_read : (tokens rest : List Lexeme) (e : Spoken) → leaf_of tokens ≡ None → leaf_of tokens ≡ Some (e, rest) → ⊥
-no_leaf_read tokens rest e none is = let both : Some (e, rest) ≡ None = sym is ∙ none in cc
-
-pub no_primary : (tokens rest : List Lexeme) (e : Spoken) → leaf_of tokens ≡ None → ((after : List Lexeme) → Fixed (sign (codes "(")) tokens after → ⊥)
-    → ((w : List ℕ) (after : List Lexeme) → IsName w → Name tokens w after → ⊥) → Primary tokens e rest → ⊥
-no_primary _ _ _ none shut nameless (a_leaf tokens rest e is) = no_leaf_read tokens rest e none is
-no_primary _ _ _ none shut nameless (a_group tokens after rest a at whole) = shut after at
-no_primary _ _ _ none shut nameless (named w tokens after rest e ok at is) = nameless w after ok at
-
-module _ (left : ℕ) (tokens : List Lexeme) (none : leaf_of tokens ≡ None) (shut : (after : List Lexeme) → Fixed (sign (codes "(")) tokens after → ⊥) where
-  pub no_word : ((w : List ℕ) (after : List Lexeme) → Name tokens w after → ⊥) → NoneRead (Whole 7) left tokens
-  no_word nameless e rest is few = no_primary tokens rest e none shut (λ w after ok at. nameless w after at) (primary_at 7 tokens rest e refl is)
-
-  pub no_name : (w : List ℕ) (behind : List Lexeme) → Name tokens w behind → (IsName w → ⊥) → NoneRead (Whole 7) left tokens
-  no_name w behind first other e rest is few =
-      no_primary tokens rest e none shut (λ v after ok at. other (let both : word v ∷ after ≡ word w ∷ behind = sym at ∙ first in let same : v ≡ w = cc in rw (sym same) ok))
-      (primary_at 7 tokens rest e refl is)
-
 -- behind a name
 module _ (left : ℕ) (w : List ℕ) (tokens behind : List Lexeme) (first : Name tokens w behind) (ok : IsName w) where
   pub named_none : NoneRead (Named w) left behind → NoneRead (Whole 7) left tokens
@@ -75,15 +49,7 @@ module _ (left : ℕ) (w : List ℕ) (tokens behind : List Lexeme) (first : Name
   named_read rest e deep read =
       record { is = primary 7 tokens rest e refl (named w tokens behind rest e ok first read.is); deep_is = read.deep_is; within = read.within }
 
-pub dotted_read : (left : ℕ) (w : List ℕ) (behind rest : List Lexeme) (e : Spoken) → Named w behind e rest → nesting e ≡ 1 → 0 < left → IsRead (Named w) left behind e 1 rest
-dotted_read left w behind rest e is flat some = record { is = is; deep_is = sym flat; within = omega (arith, some) }
-
 module _ (left : ℕ) (w : List ℕ) (behind after : List Lexeme) (first : Fixed (sign (codes "(")) behind after) where
-  pub call_none : NoneAre Inside left after → NoneRead (Named w) left behind
-  call_none none e rest is few =
-      let its = call_parts w behind after rest e first is in
-      let deep : nesting e ≡ deepest its.args + 1 = ap nesting its.is in
-      none its.args rest its.inside (omega (arith, deep, few))
 
   pub call_read : (rest : List Lexeme) (args : SpokenList) (deep : ℕ) → AreRead Inside left after args deep rest → (e : Spoken) → e ≡ applied w args → (most : ℕ) → most ≡ deep + 1
       → IsRead (Named w) left behind e most rest

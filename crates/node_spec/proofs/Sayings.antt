@@ -11,17 +11,8 @@ use Rattle.node_spec.specs.declared.written.Written.TheVariants.{Number, Truth, 
 pub says-Number : (n : ℕ) → spoken_of (Number n) ≡ number n
 says-Number n = ap spoken_of (sym (rolls-Number n)) ∙ fold-roll-Written Spoken node_spoken (Written-F.Number n)
 
-pub says-Truth : (b : Bool) → spoken_of (Truth b) ≡ truth b
-says-Truth b = ap spoken_of (sym (rolls-Truth b)) ∙ fold-roll-Written Spoken node_spoken (Written-F.Truth b)
-
-pub says-Text : (bytes : Bor (List ℕ)) → spoken_of (Text bytes) ≡ string bytes.now
-says-Text bytes = ap spoken_of (sym (rolls-Text bytes)) ∙ fold-roll-Written Spoken node_spoken (Written-F.Text bytes)
-
 pub says-Name : (w : Bor (List ℕ)) → spoken_of (Name w) ≡ name w.now
 says-Name w = ap spoken_of (sym (rolls-Name w)) ∙ fold-roll-Written Spoken node_spoken (Written-F.Name w)
-
-pub says-Dollar : (n : ℕ) → spoken_of (Dollar n) ≡ dollar n
-says-Dollar n = ap spoken_of (sym (rolls-Dollar n)) ∙ fold-roll-Written Spoken node_spoken (Written-F.Dollar n)
 
 pub says-Pair : (v w : Bor (List ℕ)) → spoken_of (Pair v w) ≡ pair v.now w.now
 says-Pair v w = ap spoken_of (sym (rolls-Pair v w)) ∙ fold-roll-Written Spoken node_spoken (Written-F.Pair v w)

@@ -50,14 +50,3 @@ module _ (g : Cfg) (m : Falling) (t : ℕ) (old stack : List Entry) (steps : Lis
       → (read : List TokenRef) → State g read old steps → Follows g t read old steps → NoneAhead g read t
   turn_stuck n is none_is read state follows =
       none_predicted g read stack steps n t (rw is at state) none_is (rw is at follows)
-
-module _ (g : Cfg) (t : ℕ) where
-  pub goes_none : (old : List Entry) (steps : List Step) → IsReached g old → Goes g t old steps old steps
-  goes_none old steps reached = record { reached = reached; state = λ read s. s; follows = λ read s f. f }
-
-  pub goes_then : (a b c : List Entry) (p q r : List Step) → Goes g t a p b q → Goes g t b q c r → Goes g t a p c r
-  goes_then a b c p q r x y = record {
-    reached = y.reached;
-    state = λ read s. y.state read (x.state read s);
-    follows = λ read s f. y.follows read (x.state read s) (x.follows read s f);
-  }

@@ -63,7 +63,3 @@ module _ (positions : Positions) (firsts : List BitSet) (set : ℕ → ℕ → T
       by_case : {t : ℕ} → Stands set count (SetAfter positions firsts way) t → (s : ℕ) × (s < count) × IsState way s
       by_case (for_none _ at none) = absurd (is.filled none)
       by_case (for_state t within has) = (t, within, has)
-
-  pub no_more_sets : HasMoreSets positions firsts count → ⊥
-  no_more_sets more = not_more (IsWay positions firsts) (IsSameSet positions firsts) count IsState state_of
-      (λ a b t is_a is_b at_a at_b q. (λ h. (at_b q).0 ((at_a q).1 h), λ h. (at_a q).0 ((at_b q).1 h))) more

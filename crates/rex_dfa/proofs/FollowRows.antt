@@ -42,9 +42,6 @@ pub record FollowRows (all rest : List Rule) (size at : ℕ) (sets : List BitSet
   pub room : at + position_count (marked_rules rest) ≡ size
   pub same : (p q : ℕ) → at ≤ p → Follow (marked_rules all) 0 p q ↔ Follow (marked_rules rest) at p q
 
-pub no_follow_rows : (all : List Rule) (size : ℕ) → position_count (marked_rules all) ≡ size → FollowRows all all size 0 []
-no_follow_rows all size is = record { rows = no_rows size (Follow (marked_rules all) 0); room = omega arith; same = λ p q from. (λ h. h, λ h. h) }
-
 -- what follows a position of the first rule that is left
 module _ (rule : Rule) (rest : List Rule) (at : ℕ) where
   abbrev own_count : ℕ

@@ -23,13 +23,6 @@ pub record Marking (all rest : List Rule) (at : ℕ) (marks : List ℕ) : Type 0
   pub goes_on : (later : List ℕ) → AreMarks rest at later → AreMarks all 0 (marks ++ later)
   pub room : at + position_count (marked_rules rest) ≤ position_count (marked_rules all)
 
-pub marking_more : (all rest : List Rule) (rule : Rule) (at later : ℕ) (marks : List ℕ) → Marking all (rule ∷ rest) at marks
-    → later ≡ at + position_count (marked (body_and_context rule)) → Marking all rest later (marks ++ (later - 1) ∷ [])
-marking_more all rest rule at later marks before place = record {
-  goes_on = λ more are. rw (append_assoc marks ((later - 1) ∷ []) more) (before.goes_on ((later - 1) ∷ more) (omega arith, subst (λ k. AreMarks rest k more) place are));
-  room = let room = before.room in omega arith;
-}
-
 pub marking_done : (all : List Rule) (at : ℕ) (marks : List ℕ) → Marking all [] at marks → AreMarks all 0 marks
 marking_done all at marks done = subst (AreMarks all 0) (append_nil marks) (done.goes_on [] tt)
   where
@@ -59,18 +52,3 @@ least_here marks set i within before here =
 
 pub least_none : (marks : List ℕ) (set : BitSet) (i : ℕ) → length marks ≤ i → NoneBefore marks set i → IsLeast (HasMark marks set) None
 least_none marks set i past before = λ j h. let within = slice_get_within marks j h.0 h.1 in before j (omega arith) h
-
-pub marks_more : (marks : List ℕ) (size : ℕ) (sets : List (List ℕ)) (accepts : List (Option ℕ)) (n : ℕ) (o : Option ℕ) → MarksSets marks size sets accepts n
-    → IsLeast (HasMark marks (record { size = size; words = get_or sets n [] })) o → MarksSets marks size sets (accepts ++ o ∷ []) (n + 1)
-marks_more marks size sets accepts n o before least = record {
-  count = omega (arith, length-append accepts (o ∷ []), before.count);
-  least = λ s below. elim (cases_eq s n) [
-    | inl same ↦
-        let here : get_or (accepts ++ o ∷ []) s None ≡ o = rw (same, sym before.count) (get_or-append_seam accepts o [] None) in
-        rw (here, same) least
-    | inr other ↦
-        let early : s < n = omega arith in
-        let here : get_or (accepts ++ o ∷ []) s None ≡ get_or accepts s None = get_or_append_left accepts (o ∷ []) None s (omega (arith, before.count)) in
-        rw here (before.least s early)
-  ];
-}

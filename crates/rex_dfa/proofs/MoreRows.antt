@@ -5,9 +5,6 @@ use Rattle.ck_base.specs.BitSet.{BitSet, Has, IsEmpty, Adds}
 use Rattle.ck_base.proofs.Counting.{element_of_longer}
 use Rattle.rex_dfa.specs.within.Rows.{AreRows}
 
-pub no_rows : (size : ℕ) (P : ℕ → ℕ → Type 0) → AreRows size 0 P []
-no_rows size P = record { long = refl; sizes = λ i set is. absurd (none-some set is); has = λ i set is. absurd (none-some set is) }
-
 pub rows_more : (size count : ℕ) (P : ℕ → ℕ → Type 0) (sets : List BitSet) (fresh set : BitSet) → AreRows size count P sets
     → fresh.size ≡ size → IsEmpty fresh → Adds fresh set (P count) → AreRows size (count + 1) P (sets ++ set ∷ [])
 rows_more size count P sets fresh set before fresh_size none adds = record {

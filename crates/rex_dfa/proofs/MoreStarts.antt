@@ -13,16 +13,6 @@ use Rattle.rex_dfa.proofs.MoreMoves.{numbered_of, stands_still, too_many_reached
 use Rattle.rex_dfa.proofs.SetRuns.{comes_at_once}
 use Rattle.rex_dfa.proofs.StateNumbers.{numbers_alike}
 
-pub no_starts : (positions : Positions) (firsts : List BitSet) → AreStarts positions firsts [] [] 0
-no_starts positions firsts = record {
-  sets_reached = record { fit = λ s below. absurd (omega arith); small = λ s below. absurd (omega arith); filled = λ s below. absurd (omega arith); reached = λ s below. absurd (omega arith) };
-  few = omega arith;
-  count = refl;
-  begins = λ i below. absurd (omega arith);
-  none_yet = λ at. refl;
-  zero_first = λ some. absurd (omega arith);
-}
-
 -- the first set gets the number 0
 first_number : (positions : Positions) (old new : List (List ℕ)) (P : ℕ → Type 0) (o : Option ℕ) (t : ℕ) → o ≡ Some t → old ≡ [] → Numbers positions old new P o
     → (t ≡ nowhere) ⊎ (t ≡ 0)

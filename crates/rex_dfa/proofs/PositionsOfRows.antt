@@ -13,9 +13,6 @@ use Rattle.rex_dfa.specs.within.Positions.{ArePositions, HasAt}
 use Rattle.rex_dfa.specs.within.Rows.{AreRows}
 use Rattle.rex_dfa.specs.declared.positions.Positions.{Positions}
 
-pub sizes_of_rows : (size count : ℕ) (P : ℕ → ℕ → Type 0) (sets : List BitSet) → AreRows size count P sets → All (λ set. set.size ≡ size) sets
-sizes_of_rows size count P sets rows = λ k d within. rows.sizes k (get_or sets k d) (slice_get-get_or sets k d within)
-
 pub row_at : (size count : ℕ) (P : ℕ → ℕ → Type 0) (sets : List BitSet) → AreRows size count P sets → (i p : ℕ) → i < count → HasAt sets i p ↔ P i p
 row_at size count P sets rows i p below = (
   λ h. (rows.has i h.0 h.1 p).0 h.2,
@@ -42,9 +39,6 @@ takes_marked r p b = (λ h. inl h, back)
     back : Takes (marked r) 0 p b → Takes r 0 p b
     back (inl h) = h
     back (inr (at, is)) = absurd (true≢false (sym is.1))
-
-none_set : BitSet
-none_set = record { size = 0; words = [] }
 
 pub same_at : (size : ℕ) (sets : List BitSet) → All (λ set. set.size ≡ size) sets → (a b p : ℕ) → b < length sets → words_at sets a ≡ words_at sets b
     → HasAt sets a p → HasAt sets b p
@@ -80,9 +74,6 @@ positions_are positions size is small takers taker_sizes follows follow_sizes li
 pub record BeforesUpTo (follows : List BitSet) (p n : ℕ) (old to : BitSet) : Type 0 where
   pub adds : Adds old to (λ q. (q < n) × HasAt follows q p)
 
-pub no_befores : (follows : List BitSet) (p : ℕ) (old : BitSet) → BeforesUpTo follows p 0 old old
-no_befores follows p old = record { adds = record { size = refl; only = λ i h. inl h; kept = λ i h. h; more = λ i h. let below = h.0 in absurd (omega arith) } }
-
 pub befores_more : (follows : List BitSet) (p n : ℕ) (old mid to row : BitSet) (b : Bool) → slice_get follows n ≡ Some row → BeforesUpTo follows p n old mid
     → IsTrue b ↔ Has row p → Adds mid to (λ q. IsTrue b × (q ≡ n)) → BeforesUpTo follows p (n + 1) old to
 befores_more follows p n old mid to row b is before says adds = record {
@@ -114,24 +105,6 @@ befores_done follows p old to done = record {
 pub record LastsUpTo (r : Re) (size n : ℕ) (set : BitSet) : Type 0 where
   pub has_size : set.size ≡ size
   pub has : (p : ℕ) → Has set p ↔ ((p < n) × Last r 0 p)
-
-pub no_lasts : (r : Re) (size : ℕ) (set : BitSet) → set.size ≡ size → IsEmpty set → LastsUpTo r size 0 set
-no_lasts r size set is empty = record { has_size = is; has = λ p. (λ h. absurd (empty p h), λ h. let below = h.0 in absurd (omega arith)) }
-
-pub lasts_more : (r : Re) (size n : ℕ) (mid set : BitSet) (b : Bool) → LastsUpTo r size n mid → IsTrue b ↔ Last r 0 n → Adds mid set (λ q. IsTrue b × (q ≡ n)) → LastsUpTo r size (n + 1) set
-lasts_more r size n mid set b before says adds = record {
-  has_size = adds.size ∙ before.has_size;
-  has = λ p. (
-    λ h. elim (adds.only p h) [
-      | inl was ↦ let (below, last) = (before.has p).0 was in (omega arith, last)
-      | inr new ↦ (let at = new.1 in omega arith, subst (Last r 0) (sym new.1) (says.0 new.0))
-    ],
-    λ h. elim (cases_eq p n) [
-      | inl same ↦ adds.more p (says.1 (subst (Last r 0) same h.1), same)
-      | inr other ↦ adds.kept p ((before.has p).1 (let below = h.0 in omega arith, h.1))
-    ],
-  );
-}
 
 pub lasts_done : (r : Re) (size : ℕ) (mid set : BitSet) → position_count r + 1 ≡ size → LastsUpTo r size size mid → Adds mid set (λ q. IsTrue (has_empty r) × (q ≡ position_count r))
     → (p : ℕ) → Has set p ↔ FirstBackwards r p

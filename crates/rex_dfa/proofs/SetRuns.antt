@@ -36,8 +36,6 @@ module _ (takes follow : ℕ → ℕ → Type 0) where
 
   module _ (set : ℕ → ℕ → Type 0) (count : ℕ) (dfa : Automaton) (few : count ≤ nowhere)
       (moves : (s byte : ℕ) → s < count → byte < 256 → Stands set count (Next takes follow (set s) byte) (moved dfa s byte)) where
-    moved_nowhere : (b : ℕ) → moved dfa nowhere b ≡ nowhere
-    moved_nowhere b = refl
 
     pub run_stands : (w : List ℕ) (P : ℕ → Type 0) (s : ℕ) → AreBytes w → Stands set count P s
         → Stands set count (ComesNext takes follow P w) (run dfa s w)

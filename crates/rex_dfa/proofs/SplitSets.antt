@@ -213,17 +213,6 @@ splitting_same rules i rule is_rule none splits total before = record {
     early : (way : SplitWay) → IsEarly rules (i + 1) way → way.rule < i
     early way h = elim (cases_eq way.rule i) [ inl same ↦ absurd (h.0.filled (no_split way same)) | inr other ↦ let below = h.1 in omega arith ]
 
-pub no_splits : (rules : List Rule) → Splitting rules 0 [] 0
-no_splits rules = record {
-  has = λ j rule below at. absurd (omega arith);
-  later = λ j past. refl;
-  well = λ k d within. absurd (omega arith);
-  ways = [];
-  represent = represent_none (IsEarly rules 0) (IsSameSplitSet rules) (λ way h. let below = h.1 in omega arith);
-  count = refl;
-  few = omega arith;
-}
-
 pub splits_done : (rules : List Rule) (i : ℕ) (splits : List Halves) (total : ℕ) → length rules ≤ i → Splitting rules i splits total → AreSplits rules splits
 splits_done rules i splits total past done = record {
   has = λ j rule at. done.has j rule (let within = slice_get_within rules j rule at in omega arith) at;

@@ -110,8 +110,3 @@ module _ (r : Re) (text : List ℕ) where
       → IsEmpty from → IsLongest r text found
   search_stopped size i from to found searching within empty = longest_of_all i found searching.found_is within
       (none_longer r text i (λ q comes. empty q ((searching.places q).1 comes)))
-
-  pub search_ended : (size i : ℕ) (from to : BitSet) (found : Option ℕ) → Searching size i from to found → i ≤ length text
-      → length text ≤ i → IsLongest r text found
-  search_ended size i from to found searching within past = longest_of_all i found searching.found_is within
-      (λ m more below word. omega arith)

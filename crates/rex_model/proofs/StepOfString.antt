@@ -103,9 +103,3 @@ module _ (string : List ℕ) (k : ℕ) (from : BitSet) (byte : ℕ) where
             | inl same ↦ absurd (left (subst IsTakenAt same taken))
             | inr other ↦ (omega arith, moves)
           ]
-
-  -- no byte is left
-  pub string_done : (next : ℕ) (old new : BitSet) → SteppingString next old new → length string ≤ next
-      → Adds old new (Moves (bytes string) k from byte)
-  string_done next old new stepping past = adding_all stepping.adding
-      (λ q missing. let (i, at, inside, taken) = moved_from q missing.1 in let behind = missing.0 in omega arith)

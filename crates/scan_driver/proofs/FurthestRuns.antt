@@ -14,13 +14,6 @@ module _ (dfa : Automaton) (s : ℕ) (text : List ℕ) where
     pub state_of : state < length dfa.accepts
     pub some : state ≢ nowhere
 
-  pub begins : IsStateOf dfa s → s ≢ nowhere → GoesOn 0 s
-  begins state_of some = record {
-    is = refl;
-    state_of = elim state_of [ inl none ↦ absurd (some none) | inr below ↦ below ];
-    some = some;
-  }
-
   -- from a state one moves by the list
   pub moved_by : (state byte : ℕ) → state ≢ nowhere → moved dfa state byte ≡ slice_index dfa.moves (256 * state + byte)
   moved_by state byte some = rw (ne_eqb state nowhere some) refl
@@ -53,27 +46,3 @@ module _ (dfa : Automaton) (s : ℕ) (text : List ℕ) where
         ap (run dfa s) parts ∙ run-append dfa s (take (i + 1) text) (take (l - (i + 1)) (drop (i + 1) text))
         ∙ ap (λ t. run dfa t (take (l - (i + 1)) (drop (i + 1) text))) here ∙ run_nowhere dfa (take (l - (i + 1)) (drop (i + 1) text));
   }
-
-  pub ends : (i state : ℕ) → i ≡ length text → GoesOn i state → IsFurthest dfa s text state (length text)
-  ends i state at_end before = record {
-    within = omega arith;
-    is = subst (λ k. state ≡ run dfa s (take k text)) at_end before.is;
-    state_of = before.state_of;
-    some = before.some;
-    last = λ l past inside. absurd (omega arith);
-  }
-
-  -- what is accepted in the last state is accepted last
-  pub accepted_furthest : (state len rule : ℕ) → IsFurthest dfa s text state len
-      → get_or dfa.accepts state None ≡ Some rule → IsLongestRun dfa s text rule len
-  accepted_furthest state len rule end is = record {
-    within = end.within;
-    accepts = ap (accepted dfa) (sym end.is) ∙ by_list ∙ is;
-    longest = λ l j inside some. elim (cases_lt len l) [
-      | inl past ↦ absurd (none-some j (sym (ap (accepted dfa) (end.last l past inside)) ∙ some))
-      | inr small ↦ small
-    ];
-  }
-    where
-      by_list : accepted dfa state ≡ get_or dfa.accepts state None
-      by_list = rw (ne_eqb state nowhere end.some) refl

@@ -28,15 +28,6 @@ module _ (dfa : Automaton) (s : ℕ) (text : List ℕ) where
     pub state_of : IsStateOf dfa state
     pub found_is : IsUpTo i found
 
-  begins_with : (o : Option ℕ) → accepted dfa (run dfa s (take 0 text)) ≡ o → IsUpTo 0 (found_with o 0 None)
-  begins_with None e = λ l j within some.
-      let same : l ≡ 0 = omega arith in
-      none-some j (sym e ∙ subst (λ k. accepted dfa (run dfa s (take k text)) ≡ Some j) same some)
-  begins_with (Some rule) e = record { within = omega arith; accepts = e; longest = λ l j within some. within }
-
-  pub run_begins : (found : Option Found) → IsStateOf dfa s → found ≡ found_with (accepted dfa s) 0 None → Running 0 s found
-  run_begins found state is = record { is = refl; state_of = state; found_is = rw is (begins_with (accepted dfa s) refl) }
-
   goes_on : (i : ℕ) (o : Option ℕ) (found : Option Found) → accepted dfa (run dfa s (take (i + 1) text)) ≡ o → IsUpTo i found → IsUpTo (i + 1) (found_with o (i + 1) found)
   goes_on i (Some rule) found e before = record { within = omega arith; accepts = e; longest = λ l j within some. within }
   goes_on i None None e before = λ l j within some. elim (cases_eq l (i + 1)) [
@@ -86,10 +77,6 @@ module _ (dfa : Automaton) (s : ℕ) (text : List ℕ) where
       | inr small ↦ running.found_is.longest l j small some
     ];
   }
-
-  pub run_ends : (found : Option Found) → IsUpTo (length text) found → MatchFound found
-  run_ends None none = none
-  run_ends (Some found) is = record { within = is.within; accepts = is.accepts; longest = is.longest }
 
 -- the state after the first i bytes of a text
 pub record IsAlong (dfa : Automaton) (s : ℕ) (text : List ℕ) (i state : ℕ) : Type 0 where

@@ -25,23 +25,6 @@ set_others bytes words new rest first after at hat is flipped = record {
   says = rw (flipped ∙ ap (λ s byte. nat_lt byte 256 && not (s byte)) is.same) (others first is.inside is.spans hat is.listed is.some);
 }
 
-pub no_these : (bytes : List ℕ) (first : ℕ) (after : List ℕ) → bytes ≡ first ∷ after → (first ≡ 94 → ⊥) → HasNoClass bytes → HasNoSet bytes
-no_these bytes first after at plain none inside rest set are says = by inside set are says
-  where
-    by : (inside : List ℕ) (set : ℕ → Bool) → bytes ≡ inside ++ 93 ∷ rest → ClassSays inside set → ⊥
-    by _ _ are (these inside spans listed some plain_first) = none inside rest spans are some listed
-    by _ _ are (others hat inside spans is_hat listed some) = plain (let e : first ≡ hat = (let f = sym at ∙ are in cc) in e ∙ is_hat)
-
-pub no_others : (bytes : List ℕ) (first : ℕ) (after : List ℕ) → bytes ≡ first ∷ after → first ≡ 94 → HasNoClass after → HasNoSet bytes
-no_others bytes first after at is_hat none inside rest set are says = by inside set are says
-  where
-    by : (inside : List ℕ) (set : ℕ → Bool) → bytes ≡ inside ++ 93 ∷ rest → ClassSays inside set → ⊥
-    by _ _ are (these inside spans listed some plain_first) = plain_first (first_is inside (93 ∷ rest) after first some (sym are ∙ at) ∙ is_hat)
-    by _ _ are (others hat inside spans hat_is listed some) = none inside rest spans (let f = sym at ∙ are in cc) some listed
-
-pub no_empty_set : (bytes : List ℕ) → length bytes ≡ 0 → HasNoSet bytes
-no_empty_set bytes empty inside rest set are says = let a = ap length are in let b = length-append inside (93 ∷ rest) in omega (arith, a, b, empty)
-
 -- the class is the longest token
 whole : (m : ℕ) (line inside : List ℕ) → take m (91 ∷ line) ≡ 91 ∷ (inside ++ 93 ∷ []) → line ≡ inside ++ 93 ∷ drop m (91 ∷ line)
 whole m line inside at =

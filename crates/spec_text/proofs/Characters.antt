@@ -72,24 +72,6 @@ no_escape letter after unnamed uncoded = λ inside meant rest are quoted. back i
         let e : letter ≡ x = cc in let tail : after ≡ h ∷ l ∷ (u ++ 34 ∷ rest) = cc in
         absurd (uncoded (e ∙ at_x) (rw tail (rw (is_high, is_low) refl)))
 
-pub no_escape_at_end : HasNoCharacter (92 ∷ [])
-no_escape_at_end = λ inside meant rest are quoted. back inside meant rest are quoted
-  where
-    back : (inside meant rest : List ℕ) → 92 ∷ [] ≡ inside ++ 34 ∷ rest → Quoted inside meant → inside ≡ []
-    back _ _ rest are nothing = refl
-    back _ _ rest are (itself b u v is quoted) = let e : 92 ≡ b = cc in let f = rw (← e) at is in cc
-    back _ _ rest are (escaped slash l u v at names quoted) = cc
-    back _ _ rest are (coded slash x h l u v at at_x is_high is_low quoted) = cc
-
-pub no_character : (byte : ℕ) (after : List ℕ) → is_text_byte byte ≡ false → (byte ≡ 92 → ⊥) → HasNoCharacter (byte ∷ after)
-no_character byte after no_text no_slash = λ inside meant rest are quoted. back inside meant rest are quoted
-  where
-    back : (inside meant rest : List ℕ) → byte ∷ after ≡ inside ++ 34 ∷ rest → Quoted inside meant → inside ≡ []
-    back _ _ rest are nothing = refl
-    back _ _ rest are (itself b u v is quoted) = let e : byte ≡ b = cc in let f = rw (← e) at is in cc
-    back _ _ rest are (escaped slash l u v at names quoted) = let e : byte ≡ slash = cc in absurd (no_slash (e ∙ at))
-    back _ _ rest are (coded slash x h l u v at at_x is_high is_low quoted) = let e : byte ≡ slash = cc in absurd (no_slash (e ∙ at))
-
 -- the characters so far
 pub record TextSoFar (bytes rest : List ℕ) (len : ℕ) : Type 0 where
   pub fits : len + length rest ≡ length bytes
@@ -97,14 +79,6 @@ pub record TextSoFar (bytes rest : List ℕ) (len : ℕ) : Type 0 where
   pub before : (inside meant : List ℕ) → Quoted inside meant → (more : List ℕ) × Quoted (take len bytes ++ inside) more
   pub behind : (inside meant after : List ℕ) → bytes ≡ inside ++ 34 ∷ after → Quoted inside meant
       → (u : List ℕ) × (v : List ℕ) × (inside ≡ take len bytes ++ u) × Quoted u v × (rest ≡ u ++ 34 ∷ after)
-
-pub no_text_yet : (bytes : List ℕ) → TextSoFar bytes bytes 0
-no_text_yet bytes = record {
-  fits = omega arith;
-  are = refl;
-  before = λ inside meant quoted. (meant, quoted);
-  behind = λ inside meant after are quoted. (inside, meant, refl, quoted, are);
-}
 
 pub more_text : (bytes rest : List ℕ) (len n : ℕ) → TextSoFar bytes rest len → IsCharacter rest n → TextSoFar bytes (drop n rest) (len + n)
 more_text bytes rest len n so is =
@@ -134,10 +108,3 @@ all_text bytes rest more len first so are is = record {
     at_drop zero (byte ∷ bytes) more at = (let e : byte ≡ 34 = cc in rw e refl)
     at_drop (suc n) [] more at = cc
     at_drop (suc n) (byte ∷ bytes) more at = at_drop n bytes more at
-
-pub no_text : (bytes rest : List ℕ) (len : ℕ) → TextSoFar bytes rest len → HasNoCharacter rest → ((more : List ℕ) → rest ≡ 34 ∷ more → ⊥)
-    → HasNo2 (IsInsideOf bytes)
-no_text bytes rest len so none other = λ inside meant is.
-    let all = so.behind inside meant is.rest is.are is.quoted in
-    let end = none all.0 all.1 is.rest all.4 all.3 in
-    other is.rest (all.4 ∙ ap (λ l. l ++ 34 ∷ is.rest) end)

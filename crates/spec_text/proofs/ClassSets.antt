@@ -259,15 +259,6 @@ class_here bytes rest set after first so less at is =
     some [] are = let a = ap length are in let b = ap length at in absurd (omega (arith, less, a, b))
     some (x ∷ inside) are = omega arith
 
-pub no_class_here : (bytes rest set : List ℕ) → BytesSoFar bytes rest set → HasNoSpan rest → ((after : List ℕ) → rest ≡ 93 ∷ after → ⊥) → HasNoClass bytes
-no_class_here bytes rest set so none stops inside end spans are some listed =
-    let all = so.back inside end spans are listed in
-    let empty = none all.0 end all.1 all.3 all.4 in
-    stops end (all.3 ∙ ap (λ l. l ++ 93 ∷ end) empty)
-
-pub no_class_first : (bytes : List ℕ) → HasNoSpan bytes → HasNoClass bytes
-no_class_first bytes none inside end spans are some listed = let empty = ap length (none inside end spans are listed) in omega (arith, some, empty)
-
 pub code_here : (slash x high low : ℕ) (rest : List ℕ) (value : ℕ) → slash ≡ 92 → x ≡ 120 → is_hex high ≡ true → is_hex low ≡ true → value ≡ digit_value high * 16 + digit_value low
     → ClassChar (slash ∷ x ∷ high ∷ low ∷ rest) value rest
 code_here slash x high low rest value at at_x h l is = rw is (by_code slash x high low rest at at_x h l)

@@ -64,10 +64,6 @@ module _ {S : Type 0} (n : Notation S) where
       let more = grow i j a.0 b.0 a.1 b.1 less in
       let x = a.2.number in let y = b.2.number in omega (arith, more, x, y)
 
-  pub as_many : (lines : List Line) (ds : List (Declared S)) → DeclareAll n lines ds → length ds ≡ length lines
-  as_many _ _ no_lines = refl
-  as_many _ _ (one_line line lines d ds says more) = ap suc (as_many lines ds more)
-
   at_line_end : (lines : List Line) (ds : List (Declared S)) (line : Line) (d : Declared S) → DeclareAll n lines ds → Says n line d
       → DeclareAll n (lines ++ line ∷ []) (ds ++ d ∷ [])
   at_line_end _ _ line d no_lines says = one_line line [] d [] says no_lines

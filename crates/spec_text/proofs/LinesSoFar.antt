@@ -22,20 +22,6 @@ pub record LinesSoFar (file rest : List ℕ) (found : List SpecLine) (count : �
   pub before : (texts : List TextLine) (lines : List Line) → TextLines (count + 1) (length file - length rest) rest texts
       → ReadLines texts lines → AllLines file count texts (seen ++ lines)
 
-pub no_lines_yet : (file : List ℕ) (found : List SpecLine) → found ≡ [] → LinesSoFar file file found 0
-no_lines_yet file found empty = record {
-  seen = [];
-  are = rw empty refl;
-  within = omega arith;
-  few = rw empty (omega arith);
-  before = λ texts lines are read. record {
-    all = texts;
-    are = (let here : length file - length file ≡ 0 = omega arith in rw here at are);
-    read = read;
-    number = omega arith;
-  };
-}
-
 module _ (file rest after text : List ℕ) (found : List SpecLine) (count : ℕ) (so : LinesSoFar file rest found count)
     (begins : BeginsLine rest text after) (shorter : length after < length rest) where
   -- one line more

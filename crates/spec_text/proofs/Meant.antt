@@ -30,17 +30,6 @@ coded_first slash x high low after value is_slash is_x is = rw is (record { shor
     by _ (escaped _ _ _ more at names quoted) = let e = rw is_x at names in cc
     by _ (coded _ _ _ _ _ more at at_x h l quoted) = (more, refl, quoted)
 
-pub nothing_left : MeansNothing []
-nothing_left _ nothing = refl
-
-pub no_slash_alone : (slash : ℕ) → slash ≡ 92 → MeansNothing (slash ∷ [])
-no_slash_alone slash is_slash _ (itself _ _ more is quoted) = let e = rw is_slash at is in cc
-
-pub no_code : (slash x : ℕ) (after : List ℕ) → slash ≡ 92 → x ≡ 120 → ((high low : ℕ) (rest : List ℕ) → after ≡ high ∷ low ∷ rest → is_hex high ≡ true → is_hex low ≡ true → ⊥) → MeansNothing (slash ∷ x ∷ after)
-no_code slash x after is_slash is_x none _ (itself _ _ more is quoted) = let e = rw is_slash at is in cc
-no_code slash x after is_slash is_x none _ (escaped _ _ _ more at names quoted) = let e = rw is_x at names in cc
-no_code slash x _ is_slash is_x none _ (coded _ _ high low rest more at at_x h l quoted) = absurd (none high low rest refl h l)
-
 -- the bytes so far
 abbrev pub MeantSoFar : List ℕ → List ℕ → List ℕ → Type 0
 MeantSoFar inside rest done = (meant : List ℕ) → Quoted inside meant → (more : List ℕ) × (meant ≡ done ++ more) × Quoted rest more

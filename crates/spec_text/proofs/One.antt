@@ -14,9 +14,6 @@ One {V} P F = (tokens rest more : List Lexeme) (v w : V) → F rest → F more �
 pub one_name : (F : Follow) → One Name F
 one_name F tokens rest more v w f g is is2 = let e : word v ∷ rest ≡ word w ∷ more = sym is ∙ is2 in ((cc), (cc))
 
-pub one_text : (F : Follow) → One Text F
-one_text F tokens rest more v w f g is is2 = let e : text v ∷ rest ≡ text w ∷ more = sym is ∙ is2 in ((cc), (cc))
-
 module _ {V : Type 0} (P : Part V) (F : Follow) (one : One P F) where
   pub one_opt : ((tokens rest : List Lexeme) (v : V) → F tokens → P tokens v rest → ⊥) → One (Opt P) F
   one_opt apart _ _ _ _ _ f g (absent tokens) (absent _) = (refl, refl)

@@ -67,15 +67,6 @@ pair_is (a, b) v w first second = rw (first, second) refl
 
 module _ {V W : Type 0} (P : Part V) (Q : Part W) (E F : Follow) (starts : (tokens : List Lexeme) (w : W) (rest : List Lexeme) → F rest → Q tokens w rest → E tokens) where
   -- one after the other
-  pub both : (tokens after rest : List Lexeme) (v : V) (w : W) → Reading P E tokens v after → Reading Q F after w rest → Reading (Then P Q) F tokens (v, w) rest
-  both tokens after rest v w first second = record {
-    is = record { after = after; first = first.is; second = second.is };
-    only = λ pair more follows is.
-        let same = first.only pair.0 is.after (starts is.after pair.1 more follows is.second) is.first in
-        let other = second.only pair.1 more follows (rw same.1 at is.second) in
-        (pair_is pair v w same.0 other.0, other.1);
-  }
-
   pub none_first : (tokens : List Lexeme) → NoReading P E tokens → NoReading (Then P Q) F tokens
   none_first tokens none = λ pair more follows is. none pair.0 is.after (starts is.after pair.1 more follows is.second) is.first
 
@@ -138,13 +129,6 @@ module _ {V : Type 0} (sep : Lexeme) (P : Part V) (E F : Follow) (at_comma : (re
       on ws more follows (inr goes) =
           let here : goes.after ≡ after = (let e = sym goes.are ∙ are in cc) in
           again ws goes.others more goes.all ((list_first after behind v reading).only goes.others more follows (rw here at goes.is))
-
-  pub list_end : (tokens rest : List Lexeme) (vs : List V) → ListSoFar tokens rest vs → ((after : List Lexeme) → rest ≡ sep ∷ after → ⊥) → Reading (ListBy sep P) F tokens vs rest
-  list_end tokens rest vs so none = record { is = so.is; only = λ ws more follows is. on ws more (so.only ws more follows is) }
-    where
-      on : (ws : List V) (more : List Lexeme) → ((ws ≡ vs) × (more ≡ rest)) ⊎ Goes rest vs ws more → (ws ≡ vs) × (more ≡ rest)
-      on ws more (inl same) = same
-      on ws more (inr goes) = absurd (none goes.after goes.are)
 
   pub list_none : (tokens rest after : List Lexeme) (vs : List V) → ListSoFar tokens rest vs → rest ≡ sep ∷ after → NoReading P E after → NoReading (ListBy sep P) F tokens
   list_none tokens rest after vs so are none = λ ws more follows is. on ws more follows (so.only ws more follows is)

@@ -138,19 +138,6 @@ start_head t at line head first = record {
   from = λ lines all left. (all, refl, (head_in t 0 at line lines all head left).1);
 }
 
-pub start_other : (at : ℕ) (section : Section) (line : Line) → IsHead section line → (rank section ≡ 0 → ⊥) → Stuck Start at line
-start_other at section line head not_first lines all left = not_first (head_in section 0 at line lines all head left).0
-
-pub start_plain : (at : ℕ) (line : Line) → IsPlain line → Stuck Start at line
-start_plain at line plain lines all left = plain_in 0 at line lines all plain left
-
-pub start_end : (at : ℕ) (line : Line) → IsEnd line → Stuck Start at line
-start_end at line end lines all left = by lines all end left
-  where
-    by : (lines : List Line) (all : List Part) → IsEnd line → Stand 0 at (line ∷ lines) all → ⊥
-    by _ _ end (closed _ _ _ some its) = omega (arith, some)
-    by _ _ end (part _ _ s _ inside rest parts is_rank its plain stand) = head_end s line its end
-
 pub open_head : (s t : Section) (h at : ℕ) (line : Line) → IsHead t line → rank t ≡ rank s + 1 → Moves (Open s h) at line (Open t at) (part_from s h at ∷ [])
 open_head s t h at line head next = record {
   into = λ lines parts left. ended_out s h at line lines (part_from s h at ∷ parts) parts (head_out t (rank s + 1) at line lines parts head next left) refl;
@@ -178,9 +165,6 @@ open_plain s h at line plain = record {
   into = λ lines parts left. more_out s h at line lines parts plain left;
   from = λ lines all left. (all, refl, more_in s h at line lines all plain left);
 }
-
-pub closed_any : (at : ℕ) (line : Line) → Stuck Closed at line
-closed_any at line lines all left = let e = left.0 in cc
 
 -- the lines so far
 pub record SoFar (lines : List Line) (i : ℕ) (state : State) (done : List Part) : Type 0 where

@@ -21,9 +21,6 @@ pub record TokensSoFar (at here : ℕ) (line rest : List ℕ) (tokens : List Spe
   pub place : here + length rest ≡ at + length line
   pub before : (more : List Placed) (bad : Option Kind) → Reads here rest more bad → Reads at line (seen ++ more) bad
 
-pub no_tokens_yet : (at : ℕ) (line : List ℕ) (tokens : List SpecToken) → tokens ≡ [] → TokensSoFar at at line line tokens
-no_tokens_yet at line tokens empty = record { seen = []; are = empty; place = refl; before = λ more bad reads. reads }
-
 pub one_gap : (at here : ℕ) (line rest after : List ℕ) (byte : ℕ) (tokens : List SpecToken) → TokensSoFar at here line rest tokens → rest ≡ byte ∷ after → is_blank byte ≡ true
     → TokensSoFar at (here + 1) line after tokens
 one_gap at here line rest after byte tokens so are blank = record {
@@ -69,9 +66,6 @@ one_more at here n to line rest sort tokens new so is small at_to are = record {
       (small_of (take n rest) is.said is.begins.is_token (λ number large. small (is.is_sort ∙ sym number, large)))
       (rw at_to at reads)));
 }
-
-pub one_moves : (rest : List ℕ) (sort : SpecSort) (n : ℕ) → IsFirst rest sort n → (0 < n) × (n ≤ length rest)
-one_moves rest sort n is = some_begin rest is.said n is.begins
 
 -- the end of the reading
 pub end_here : (at here : ℕ) (line rest : List ℕ) (tokens : List SpecToken) (bad : Option Kind) → TokensSoFar at here line rest tokens → Reads here rest [] bad → IsRead at line tokens bad

@@ -91,16 +91,6 @@ one_seen file line tokens new i span says so at form are is it =
     said_at (x ∷ tokens) zero t at = let it : x ≡ t = cc in rw it refl
     said_at (x ∷ tokens) (suc i) t at = said_at tokens i t at
 
-pub all_seen : (file : List ℕ) (line : SpecLine) (tokens : List Token) (i : ℕ) → SeenSoFar file line tokens i → i ≡ length line.tokens.items
-    → (is : Line) → IsLineOf file line is → map seen tokens ≡ said_by is
-all_seen file line tokens i so end is it =
-    let spans = ap (λ l. length l.spans) it.same in
-    so is it ∙ take_all (said_by is) i (end ∙ spans ∙ long span_of is.tokens ∙ sym (long (λ token. token.said) is.tokens))
-  where
-    long : {X : Type 0} (f : Placed → X) (tokens : List Placed) → length (map f tokens) ≡ length tokens
-    long f [] = refl
-    long f (t ∷ tokens) = ap suc (long f tokens)
-
 -- what kind of section line a line is
 word_said : (bytes : List ℕ) (said : Lexeme) → Form bytes said → sort_of said ≡ Word → said ≡ word bytes
 word_said _ _ (a_word byte rest first others) is = refl
@@ -110,25 +100,9 @@ word_said _ _ (a_class bracket inside set at says) is = cc
 word_said _ _ (a_sign byte first) is = cc
 word_said _ _ (a_pair first second pair) is = cc
 
-alone_length : (tokens : List Placed) (said : Lexeme) → map (λ token. token.said) tokens ≡ said ∷ [] → length tokens ≡ 1
-alone_length [] said are = cc
-alone_length (t ∷ []) said are = refl
-alone_length (t ∷ u ∷ tokens) said are = cc
-
 -- a line is no section line where it is bad, or has another count of tokens, or another token
 pub plain_line : (is : Line) → ((name : List ℕ) → IsAlone name is → ⊥) → IsPlain is
 plain_line is none = record { no_head = λ section head. none (name_of section) head; no_end = λ end. none (codes "END") end }
-
-pub bad_plain : (file : List ℕ) (line : SpecLine) (is : Line) → IsLineOf file line is → (line.bad ≡ None → ⊥) → IsPlain is
-bad_plain file line is it bad = plain_line is (λ name alone. bad (ap (λ l. l.bad) it.same ∙ alone.good))
-
-pub long_plain : (file : List ℕ) (line : SpecLine) (is : Line) → IsLineOf file line is → (length line.tokens.items ≡ 1 → ⊥) → IsPlain is
-long_plain file line is it long = plain_line is (λ name alone. long (
-    let spans = ap (λ l. length l.spans) it.same in spans ∙ count is.tokens ∙ alone_length is.tokens (word name) alone.said))
-  where
-    count : (tokens : List Placed) → length (map span_of tokens) ≡ length tokens
-    count [] = refl
-    count (t ∷ tokens) = ap suc (count tokens)
 
 -- the line is one token
 pub record IsOneToken (file : List ℕ) (line : SpecLine) (span : SpecToken) (is : Line) : Type 0 where
@@ -189,10 +163,6 @@ word_mark file line span is mark it long at good sort its =
     }
 
 -- what the bytes of a token say, by its sort
-pub span_fits : (file : List ℕ) (span : SpecToken) → IsSpelled file span → (span.from ≤ span.to) × (span.to ≤ length file)
-span_fits file span is =
-    (subst (λ s. s.from ≤ s.to) (sym is.same) is.spells.order, subst (λ s. s.to ≤ length file) (sym is.same) is.spells.fits)
-
 pub form_at : (file : List ℕ) (span : SpecToken) (is : IsSpelled file span) → Form (bytes_from file span.from span.to) is.token.said
 form_at file span is = subst (λ s. Form (bytes_from file s.from s.to) is.token.said) (sym is.same) is.spells.form
 
@@ -235,18 +205,6 @@ text_form bytes inside meant is are means =
     snoc : (a b : List ℕ) → a ++ 34 ∷ [] ≡ b ++ 34 ∷ [] → a ≡ b
     snoc a b e = append_cancel_right a b (34 ∷ []) e
 
-class_said : (bytes : List ℕ) (said : Lexeme) → Form bytes said → sort_of said ≡ ClassSort → IsClassToken bytes
-class_said _ _ (a_word byte rest first others) is = cc
-class_said _ _ (a_number byte rest first others) is = cc
-class_said _ _ (a_text quote inside meant at quoted) is = cc
-class_said _ _ (a_class bracket inside set at says) is = record { set = set; form = a_class bracket inside set at says }
-class_said _ _ (a_sign byte first) is = cc
-class_said _ _ (a_pair first second pair) is = cc
-
-pub class_at : (file : List ℕ) (span : SpecToken) → IsSpelled file span → span.sort ≡ ClassSort → IsClassToken (bytes_from file span.from span.to)
-class_at file span is sort =
-    class_said (bytes_from file span.from span.to) is.token.said (form_at file span is) (sym (ap (λ s. s.sort) is.same) ∙ sort)
-
 pub good_line : (bad : Option Kind) → is_some bad ≡ false → bad ≡ None
 good_line None is = refl
 good_line (Some kind) is = cc
@@ -269,14 +227,6 @@ set_said bytes words rest inner is at found =
     let same : t.inside ++ 93 ∷ [] ≡ found.inside ++ 93 ∷ rest = sym (class_inside bytes t.inside inner t.are at) ∙ found.are in
     let sets : t.set ≡ set_of words = (one_class [] rest t.inside found.inside t.set (set_of words) t.says found.says same).0 in
     rw (← sets) (subst (λ s. Form bytes s) t.is is.form)
-  where
-    class_first : (bytes : List ℕ) (set : ℕ → Bool) → Form bytes (class set) → get_or bytes 0 0 ≡ 91
-    class_first _ _ (a_class bracket inside set at says) = at
-
-pub no_set_said : (bytes inner : List ℕ) → IsClassToken bytes → inner ≡ take (length bytes - 1) (drop 1 bytes) → HasNoSet inner → ⊥
-no_set_said bytes inner is at none =
-    let t = as_class bytes (class is.set) is.form (class_first bytes is.set is.form) in
-    none t.inside [] t.set (class_inside bytes t.inside inner t.are at) t.says
   where
     class_first : (bytes : List ℕ) (set : ℕ → Bool) → Form bytes (class set) → get_or bytes 0 0 ≡ 91
     class_first _ _ (a_class bracket inside set at says) = at

@@ -248,16 +248,6 @@ fits_here cells table c done nodes front kind kids fields r e are is =
       of_kinds = λ k v kind at item. kinds_fit _ _ parts.fields k v kind (ap (λ vs. slice_get vs k) (sym is) ∙ at) item;
     })
 
-pub roots_here : (nodes : List Node) (front : ℕ) (done kids : List ℕ) → AreRoots nodes done → kids ≡ drop front done → AreRoots nodes kids
-roots_here nodes front done kids roots are =
-    let whole : AreRoots nodes (take front done ++ kids) = subst (λ ns. AreRoots nodes ns) (sym (ap (λ ns. take front done ++ ns) are ∙ take-append-drop front done)) roots in
-    record {
-      within = λ k c at. whole.within (length (take front done) + k) c (behind (take front done) kids k (length (take front done) + k) c refl at);
-      no_child = λ k c at. whole.no_child (length (take front done) + k) c (behind (take front done) kids k (length (take front done) + k) c refl at);
-      differ = λ j k c one two. (let e = whole.differ (length (take front done) + j) (length (take front done) + k) c (behind (take front done) kids j (length (take front done) + j) c refl one)
-          (behind (take front done) kids k (length (take front done) + k) c refl two) in omega (arith, e));
-    }
-
 -- how many children and fields the next node has
 pub record Counts (cells : List Cell) (table : TypeTable) (c : ℕ) (done : List ℕ) (kind : ℕ) : Type 0 where
   pub there : kind < length table.types

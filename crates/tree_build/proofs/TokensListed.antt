@@ -13,12 +13,6 @@ use Rattle.tree_build.specs.Built.{token_text, token_place, tokens_in_source}
 use Rattle.tree_build.specs.within.Places.{span_of}
 use Rattle.tree_build.specs.within.Replaying.{shifted_by}
 
--- a list that is to have what these steps shift, and what the rest shifts
-pub one_step_more : {A : Type 0} (f : TokenRef → A) (xs ys all : List A) (step : Step) (steps : List Step) → ys ≡ xs ++ map f (shifted_by (step ∷ []))
-    → xs ++ map f (shifted_by (step ∷ steps)) ≡ all → ys ++ map f (shifted_by steps) ≡ all
-one_step_more f xs ys all (act.Shift t) steps e so_far = ap (λ l. l ++ map f (shifted_by steps)) e ∙ (append_assoc xs (f t ∷ []) (map f (shifted_by steps)) ∙ so_far)
-one_step_more f xs ys all (act.Reduce r) steps e so_far = ap (λ l. l ++ map f (shifted_by steps)) e ∙ (append_assoc xs [] (map f (shifted_by steps)) ∙ so_far)
-
 -- what moves shift
 abbrev shifts : {K : Type 0} → List (Move K) → List K
 shifts [] = []

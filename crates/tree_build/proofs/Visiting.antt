@@ -129,6 +129,3 @@ less_to_do cells c tasks new visits =
 -- the next task is on a made node whose tree conforms
 pub visit_is : (cells : List Cell) (table : TypeTable) (whole : MadeTree) (c : ℕ) (tasks : List Task) (done : MadeTrees) → Due cells table whole (task.Visit c ∷ tasks) done → IsMade cells c × TreeFits table (tree_at cells c)
 visit_is cells table whole _ _ _ (to_visit c tasks done is_made fit rest) = (is_made, fit)
-
-pub make_is : (cells : List Cell) (table : TypeTable) (whole : MadeTree) (c : ℕ) (tasks : List Task) (done : MadeTrees) → Due cells table whole (task.Make c ∷ tasks) done → IsMade cells c × TreeFits table (tree_at cells c)
-make_is cells table whole _ _ _ (to_make c tasks done below is_made fit e rest) = (is_made, fit)

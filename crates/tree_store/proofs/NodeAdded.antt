@@ -33,9 +33,6 @@ linking_more cs n c v old new value linking at within differ is = record {
   kept = λ d none. get_or-set_other new c d v 0 (λ same. none n (at ∙ ap Some (sym same))) ∙ linking.kept d none;
 }
 
-pub linking_none : (cs old : List ℕ) (value : ℕ → ℕ) → Linking cs 0 old old value
-linking_none cs old value = record { size = refl; set = λ k c below. absurd (omega (arith, below)); kept = λ c none. refl }
-
 -- a chain whose links stay
 pub chain_kept : (nexts new : List ℕ) (n : ℕ) (ns : List ℕ) → Chain nexts n ns → ((k c : ℕ) → slice_get ns k ≡ Some c → (slice_index new c ≡ slice_index nexts c) × (c < length new)) → Chain new n ns
 chain_kept nexts new n _ (ends _ e) stay = ends n e
@@ -260,12 +257,6 @@ finished labels parents numbers firsts nexts label cs p2 n2 x2 nodes t1 t3 p3 n3
       rw (t, g, x3is) (added_nodes labels parents numbers firsts nexts label cs p2 n2 x2 a) ∙ ap (λ ns. ns ++ record { ty = label.ty; fields = label.fields; children = cs } ∷ []) view,
       omega (arith, ap (λ x. length x) t1is, length-nodes nexts labels firsts a.linked.as_many_firsts, ap (λ x. length x) view),
     )
-
-pub low_children : (labels : List Labelled) (parents numbers firsts nexts : List ℕ) (nodes : List Node) (cs : List ℕ) → Linked labels parents numbers firsts nexts → nodes_from nexts labels firsts ≡ nodes → AreRoots nodes cs
-    → (k c : ℕ) → slice_get cs k ≡ Some c → c < length labels
-low_children labels parents numbers firsts nexts nodes cs linked view roots k c at =
-    let w = roots.within k c at in
-    omega (arith, w, ap (λ x. length x) view, length-nodes nexts labels firsts linked.as_many_firsts)
 
 pub is_forest : (labels : List Labelled) (parents numbers firsts nexts : List ℕ) (nodes : List Node) → Linked labels parents numbers firsts nexts → nodes_from nexts labels firsts ≡ nodes → IsForest nodes
 is_forest labels parents numbers firsts nexts nodes linked view = subst IsForest view (record {

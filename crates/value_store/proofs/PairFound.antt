@@ -16,13 +16,3 @@ size_of_map ts m u says = rw (ap pairs_in says.is) omega (arith, says.counted)
 -- the map of no pairs
 pub no_pairs : (us : List StoreUnit) → pairs_at (cells_of us) 0 ≡ []
 no_pairs us = ap pairs_in (first_cell us)
-
--- the pairs from one on
-pub find_here : (source literals wanted : List ℕ) (ts : List Cell) (m : ℕ) (u : MapUnit) → SaysEntry ts m u
-    → bytes_eq (text_of source literals u.key) wanted ≡ true → first_with wanted (entries source literals (pairs_at ts m)) ≡ Some u.number
-find_here source literals wanted ts m u says same = rw (ap pairs_in says.is, same) refl
-
-pub find_older : (source literals wanted : List ℕ) (ts : List Cell) (m : ℕ) (u : MapUnit) → SaysEntry ts m u
-    → bytes_eq (text_of source literals u.key) wanted ≡ false
-    → first_with wanted (entries source literals (pairs_at ts m)) ≡ first_with wanted (entries source literals (pairs_at ts u.older))
-find_older source literals wanted ts m u says differ = rw (ap pairs_in says.is, differ) refl

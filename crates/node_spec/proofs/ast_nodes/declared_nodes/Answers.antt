@@ -1,14 +1,15 @@
 -- Kind type, then limit; what is left is accepted.
-use Rattle.std.proofs.Common.{inl}
+use Rattle.std.proofs.Common.{inl, refl}
 use Rattle.std.specs.Prelude.{map}
 use Rattle.node_spec.specs.declared.nodes.NodeSpec.{NodeSpec}
 use Rattle.node_spec.specs.within.AstSeen.{declared_by}
-use Rattle.node_spec.proofs.FamiliesKnown.{families_known}
 use Rattle.node_spec.proofs.AstStages.{is_limit, is_accepted, nodes_are, typing_passed}
+use Rattle.node_spec.proofs.FitItems.{families_known}
 use Rattle.node_spec.proofs.ast_nodes.declared_nodes.Goals as goal
 
 pub table_of-requires-clause-known : goal.table_of-requires-clause-known
-table_of-requires-clause-known c = families_known c.args.g.now _ (λ line has. c.requires.unknown line (inl has))
+table_of-requires-clause-known c = families_known c.args.g.now _ (λ i d at fault.
+    c.requires.unknown d.number (inl (record { place = i; declared = d; is = at; number = refl; fault = fault })))
 
 pub returns-in_err-builds-clause-fault : goal.returns-in_err-builds-clause-fault
 returns-in_err-builds-clause-fault c =
