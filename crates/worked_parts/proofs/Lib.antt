@@ -2,3 +2,4 @@ mod Makers
 mod MapPut
 mod PlainReady
 mod Few
+mod LineTokens

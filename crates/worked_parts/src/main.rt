@@ -9,6 +9,7 @@
 //! | large grammars, which are made | `src/large.rt` |
 //! | expressions in postfix form | `src/postfix.rt`; the expressions: `src/expressions.rt` |
 //! | their values | `src/values.rt` |
+//! | expressions as they are written in a specification, and their values | `src/infix.rt` |
 //! | maps and nodes in cells | `src/cells.rt` |
 //! | the types of nodes; how trees of them grow | `src/kinds.rt`; `src/growing.rt` |
 //! | walks and orders | `src/trees.rt`, `src/visitors.rt` |
@@ -18,6 +19,7 @@ mod cells;
 mod expressions;
 mod grammars;
 mod growing;
+mod infix;
 mod kinds;
 mod lalr;
 mod large;
@@ -66,6 +68,7 @@ fn parts(alloc: Global, name: &str) -> Result<String, NoMemory> {
     }
     if name.is_empty() || name == "values" {
         values::show_values(alloc, expressions::ALL.as_slice(), &mut out)?;
+        infix::show_infix(alloc, &mut out)?;
         cells::show_nodes(alloc, &mut out)?;
         cells::show_doubled(alloc, &mut out)?;
         cells::show_map(alloc, &mut out)?;

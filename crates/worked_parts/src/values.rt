@@ -10,7 +10,7 @@ use std::alloc::Global;
 use value_store::{Cells, Literals, NoMemory, Text, TextOf, Texts, ValType, Value};
 
 /// The source, with its two tokens: `let` at 1:1 and `12` at 3:9.
-const SOURCE: &[u8] = b"let 12";
+pub(crate) const SOURCE: &[u8] = b"let 12";
 
 const SPANS: [Text; 2] = [
     Text {
@@ -26,6 +26,9 @@ const SPANS: [Text; 2] = [
 ];
 
 const PLACES: [(u32, u32); 2] = [(1, 1), (3, 9)];
+
+/// The types of the variables: the two tokens, the int 5, and the map of no pairs.
+pub(crate) const VARIABLES: [ValType; 4] = [ValType::Token, ValType::Token, ValType::Int, ValType::Map];
 
 /// Writes the value of each expression, by a store and, where it needs none, from the syntax alone.
 pub(crate) fn show_values(alloc: Global, all: &[&str], out: &mut String) -> Result<(), NoMemory> {
@@ -52,11 +55,9 @@ fn value_line(alloc: Global, words: &str) -> Result<String, NoMemory> {
     Ok(format!(in alloc; "{words} = {stored}{plainly}")?)
 }
 
-/// The value over a store, where the expression has a type. Variables 0 and 1 are the tokens, 2 is
-/// the int 5, and 3 the map of no pairs.
-fn stored_value(alloc: Global, e: &Expr<'_>, texts: &Texts<'_>) -> Result<String, NoMemory> {
+/// The value over a store, where the expression has a type.
+pub(crate) fn stored_value(alloc: Global, e: &Expr<'_>, texts: &Texts<'_>) -> Result<String, NoMemory> {
     let mut cells = Cells::new(alloc);
-    let vars = [ValType::Token, ValType::Token, ValType::Int, ValType::Map];
     let env = [
         Value::Token(0),
         Value::Token(1),
@@ -65,7 +66,7 @@ fn stored_value(alloc: Global, e: &Expr<'_>, texts: &Texts<'_>) -> Result<String
     ];
     let makers = makers(alloc)?;
     let scope = Scope {
-        vars: &vars,
+        vars: &VARIABLES,
         makers: makers.as_slice(),
     };
     let Some(_of) = typed(e, &scope) else {
@@ -76,7 +77,7 @@ fn stored_value(alloc: Global, e: &Expr<'_>, texts: &Texts<'_>) -> Result<String
 }
 
 /// Makers of leaves, type 1 with an int, and of pairs, type 2 with two nodes.
-fn makers(alloc: Global) -> Result<Vec<Maker>, NoMemory>
+pub(crate) fn makers(alloc: Global) -> Result<Vec<Maker>, NoMemory>
     ensures { IfOk result (λ made. AllMake made.items) }
 {
     let leaf = maker(alloc, 1, &[ValType::Int])?;
