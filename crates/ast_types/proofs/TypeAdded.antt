@@ -27,6 +27,17 @@ data Where (n t : ℕ) : Type 0 where
   at_end : t ≡ n → Where n t
   past : n < t → Where n t
 
+more_where : (n t : ℕ) → Where n t → Where (suc n) (suc t)
+more_where n t (below lt) = below (omega (arith, lt))
+more_where n t (at_end e) = at_end (ap suc e)
+more_where n t (past lt) = past (omega (arith, lt))
+
+where_is : (n t : ℕ) → Where n t
+where_is zero zero = at_end refl
+where_is zero (suc t) = past (omega arith)
+where_is (suc n) zero = below (omega arith)
+where_is (suc n) (suc t) = more_where n t (where_is n t)
+
 type_at-more : (types : List NodeType) (new : NodeType) (t : ℕ) → t < length types → type_at (types ++ new ∷ []) t ≡ type_at types t
 type_at-more types new t within = ap type_in (slice_get-more types (new ∷ []) t within)
 

@@ -209,6 +209,24 @@ ready_test c a b ready = go ready.vars ready.of c a b ready.typed ready.are
     go : {old : List Cell} {env : List Value} (vars : Context) (t : ValType) (c a b : Expression) → HasType vars (if_then c a b) t → Holds old env vars → Ready old env c
     go vars t c a b (an_if _ _ _ _ test left right) are = record { vars = vars; of = ty.Bool; typed = test; are = are }
 
+-- how deep an expression is
+abbrev mutual
+  pub depth_of : Expression → ℕ
+  depth_of (number z) = 0
+  depth_of (truth b) = 0
+  depth_of (string bytes) = 0
+  depth_of (var i) = 0
+  depth_of (negative a) = depth_of a + 1
+  depth_of (negated a) = depth_of a + 1
+  depth_of (binary o a b) = depth_of a + depth_of b + 1
+  depth_of (if_then c a b) = depth_of c + depth_of a + depth_of b + 1
+  depth_of (call f args) = depth_of_all args + 1
+  depth_of (make n args) = depth_of_all args + 1
+
+  pub depth_of_all : Expressions → ℕ
+  depth_of_all no_expressions = 0
+  depth_of_all (and_expression a more) = depth_of a + depth_of_all more + 1
+
 pub ready_right : {old mid : List Cell} {env : List Value} (o : Op) (a b : Expression) → Ready old env (binary o a b) → Keeps old mid → Ready mid env b
 ready_right o a b ready keeps = go ready.vars ready.of o a b ready.typed ready.are keeps
   where
