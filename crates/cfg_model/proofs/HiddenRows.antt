@@ -18,7 +18,7 @@ use Rattle.cfg_model.specs.within.Hiding.{IsBelowIn, Meets, FrontMeets, IsHidden
 use Rattle.cfg_model.proofs.Cycles.{hidden_left_met, HiddenRun, LeftRun, then_hidden, hidden_then, part_hidden}
 use Rattle.cfg_model.proofs.Joining.{leads_then}
 use Rattle.cfg_model.proofs.LeftPaths.{part_steps, steps_join}
-use Rattle.cfg_model.proofs.Trailing.{joins_none, joins_then, joins_same}
+use Rattle.cfg_model.proofs.Trailing.{joins_then, joins_same}
 
 module _ (null : BitSet) (met : List BitSet) where
   -- so far: what the rest still meets is all that is missing

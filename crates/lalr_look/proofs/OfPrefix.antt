@@ -8,7 +8,7 @@ use Rattle.cfg_model.specs.declared.symbol.Sym.TheVariants.{T, N}
 use Rattle.cfg_model.specs.Cfg.{Cfg, Rule, IsRule, IsSymbol, IsGrammar}
 use Rattle.cfg_model.specs.Items.{Item, right_of}
 use Rattle.lalr_look.specs.Rising.{Climbs, ends, climbs}
-use Rattle.lalr_look.proofs.Ordered.{one_rising, same_kernel}
+use Rattle.lalr_look.proofs.Ordered.{one_rising}
 use Rattle.lalr_look.proofs.Turns.{contained, placed}
 use Rattle.lalr_look.proofs.Items.{next_symbol, item_behind, small_rule, item_next, next_item, climbs_join, MoveFacts, move_facts, OpenFacts, open_facts}
 use Rattle.lalr_look.specs.Kernel.{code, NextIs, NextAt, HasItem, IsItems, IsKernel, Calls, self, on, CalledBy, Moves, IsOpened, place_of, callers, front_of}

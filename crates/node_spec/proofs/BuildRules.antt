@@ -34,7 +34,7 @@ use Rattle.node_spec.specs.Nodes.{Builds, AreSourceMakers, symbol_type}
 use Rattle.node_spec.specs.within.AstBuildSteps.{IsBuilt, Puts, passes, puts, fails}
 use Rattle.node_spec.specs.within.AstBuilt.{AllBuild}
 use Rattle.node_spec.specs.within.AstSteps.{BuildsNoNode, no_node}
-use Rattle.node_spec.proofs.BuildLines.{front_none, other_line, own_line, line_of}
+use Rattle.node_spec.proofs.BuildLines.{front_none, other_line, own_line}
 
 -- elements by their places
 same_Some_of : {X : Type 0} {x y : X} → Some x ≡ Some y → x ≡ y

@@ -8,7 +8,6 @@ use Rattle.rex_model.specs.Rules.{Rule}
 use Rattle.rex_model.specs.Sets.{marked, marked_rules, body_and_context}
 use Rattle.rex_model.proofs.Within.{Follow-within}
 use Rattle.rex_dfa.specs.within.Rows.{AreRows}
-use Rattle.rex_dfa.proofs.MoreRows.{no_rows}
 
 -- as many rows more, which are numbered from there on
 pub rows_append : (size count more : ℕ) (P : ℕ → ℕ → Type 0) (sets others : List BitSet) → AreRows size count P sets

@@ -7,7 +7,7 @@ use Rattle.std.proofs.lemmas.Option.{none-some, same_Some, slice_get_within}
 use Rattle.ck_base.specs.Counts.{HasMoreThan}
 use Rattle.ck_base.specs.Represents.{Represents}
 use Rattle.ck_base.proofs.Counting.{more_of_others}
-use Rattle.ck_base.proofs.Representing.{represent_none, represent_both, represent_map, no_more_represented, more_represented, more_than_fewer}
+use Rattle.ck_base.proofs.Representing.{represent_both, represent_map, no_more_represented, more_represented, more_than_fewer}
 use Rattle.rex_model.specs.Language.{Re}
 use Rattle.rex_model.specs.Positions.{position_count, Takes, First, Follow}
 use Rattle.rex_model.specs.Sets.{marked, marked_rules, body_and_context, FirstBackwards, FollowBackwards}
