@@ -154,11 +154,6 @@ too_many items children found is means =
     omega (arith, is, both_counts (map item_seen items), length-map items item_seen) in
     rw (← is, ← fields) means
 
--- a word of items is among the words
-where_word : (w name : List ℕ) (k : ℕ) → slice_get item_words k ≡ Some w → bytes_eq name w ≡ true → Contains item_words name
-where_word w name k at is =
-    let same = (bytes_eq-Decides name w).0 is in subst (λ n. Contains item_words n) (sym same) (contained_at item_words w k at)
-
 -- nothing is past a limit so far
 pub record LimitSoFar (ds : List (Declared AstSaying)) (i families types : ℕ) : Type 0 where
   pub families_are : families ≡ length (families_in (take i ds))
