@@ -1,15 +1,13 @@
 -- What the lines of AST declare together: over lines one behind the other, over one line more, and the type of a line.
-use Rattle.std.proofs.Common.{◌≡◌, ℕ, zero, suc, ◌+◌, ◌⊎◌, inl, inr, List, [], ◌∷◌, ◌++◌, map, take, refl, sym, ap, ◌∙◌, Option, Some, None, Contains, arith, append_assoc}
+use Rattle.std.proofs.Common.{◌≡◌, ℕ, zero, suc, ◌+◌, List, [], ◌∷◌, ◌++◌, length, map, take, drop, refl, sym, ap, ◌∙◌, Some, arith}
 use Rattle.std.specs.List.{slice_get}
-use Rattle.std.proofs.lemmas.List.{map-append, append-nil}
-use Rattle.ck_base.specs.Numbered.{AreApart, number_of}
-use Rattle.ck_base.proofs.NameFound.{place_of, contained_at}
+use Rattle.std.proofs.lemmas.List.{map-append, take-append-drop}
 use Rattle.ast_types.specs.TypeTable.{Family}
 use Rattle.spec_text.specs.Declares.{Declared}
 use Rattle.spec_text.proofs.Lists.{take_step}
 use Rattle.node_spec.specs.AstShapes.{AstSaying, SaidItem, family, target, a_type, node, build}
-use Rattle.node_spec.specs.AstTables.{Row, family_then, families_in, family_names, row_over, row_of, row_after, row_names, rows_from, rows_in, type_names}
-use Rattle.node_spec.specs.AstFaults.{name_then, names_in, DeclaresName, of_family, of_target, of_type, node_then, nodes_in, label_then, labels_in}
+use Rattle.node_spec.specs.AstTables.{Row, family_then, families_in, family_names, row_of, row_after, rows_from, rows_in}
+use Rattle.node_spec.specs.AstFaults.{row_at}
 
 -- what stands in front stays at its place
 pub get_in_front : {X : Type 0} (xs more : List X) (n : ℕ) (x : X) → slice_get xs n ≡ Some x → slice_get (xs ++ more) n ≡ Some x

@@ -127,3 +127,34 @@ own_line w ds i d e apart at is =
     let one : i + 1 ≡ suc i = omega arith in
     ap (λ n. build_line (take n ds) w) one ∙ own_at w ds i d e at is (λ j x f less at_j is_j.
     let same = one_line_of w ds j i x d f e apart at_j is_j at is in omega (arith, less, same))
+
+-- the line of which a label's expression is
+pub record IsLineOf (ds : List (Declared AstSaying)) (w : List ℕ) (e : Spoken) : Type 0 where
+  pub place : ℕ
+  pub line : Declared AstSaying
+  pub at : slice_get ds place ≡ Some line
+  pub says : line.said ≡ build w e
+
+pub line_of : (ds : List (Declared AstSaying)) (w : List ℕ) (e : Spoken) → build_line ds w ≡ Some e → IsLineOf ds w e
+line_of [] w e is = cc
+line_of (x ∷ ds) w e is = by (λ later. line_of ds w e later) x.said refl is
+  where
+    behind : IsLineOf ds w e → IsLineOf (x ∷ ds) w e
+    behind it = record { place = suc it.place; line = it.line; at = it.at; says = it.says }
+
+    by_test : (build_line ds w ≡ Some e → IsLineOf ds w e) → (label : List ℕ) (f : Spoken) → x.said ≡ build label f
+        → (b : Bool) → bytes_eq label w ≡ b
+        → (if b then Some f else build_line ds w) ≡ Some e → IsLineOf (x ∷ ds) w e
+    by_test later label f says true is found =
+        let same : label ≡ w = (bytes_eq-Decides label w).0 is in
+        let this : f ≡ e = cc in
+        record { place = 0; line = x; at = refl; says = says ∙ ap (λ l. build l f) same ∙ ap (λ y. build w y) this }
+    by_test later label f says false is found = behind (later found)
+
+    by : (build_line ds w ≡ Some e → IsLineOf ds w e) → (said : AstSaying) → x.said ≡ said
+        → build_or said w (build_line ds w) ≡ Some e → IsLineOf (x ∷ ds) w e
+    by later (family name) says found = behind (later found)
+    by later (target name) says found = behind (later found)
+    by later (a_type name base items) says found = behind (later found)
+    by later (node nonterminal name) says found = behind (later found)
+    by later (build label f) says found = by_test later label f says (bytes_eq label w) refl found

@@ -34,7 +34,7 @@ use Rattle.node_spec.specs.Nodes.{Builds, AreSourceMakers, symbol_type}
 use Rattle.node_spec.specs.within.AstBuildSteps.{IsBuilt, Puts, passes, puts, fails}
 use Rattle.node_spec.specs.within.AstBuilt.{AllBuild}
 use Rattle.node_spec.specs.within.AstSteps.{BuildsNoNode, no_node}
-use Rattle.node_spec.proofs.BuildLines.{front_none, other_line, own_line}
+use Rattle.node_spec.proofs.BuildLines.{front_none, other_line, own_line, line_of}
 
 -- elements by their places
 same_Some_of : {X : Type 0} {x y : X} → Some x ≡ Some y → x ≡ y
@@ -286,6 +286,115 @@ next_always g ds i d at labels before after old new good is apart grew does so =
       (meant_builds source (after ++ more) new) good is apart (does source more)
       (subst (λ l. BuildsSoFar g ds i (meant_builds source l old)) (sym texts) (so.always source (grew.0 ++ more)));
 }
+
+-- the place of the one nonterminal
+place_of_nonterminal : (i : ℕ) (right : List Sym) (j k : ℕ) → slice_get (nonterminal_places i right) j ≡ Some k
+    → (m n : ℕ) × (k ≡ i + m) × (slice_get right m ≡ Some (N n))
+place_of_nonterminal i [] j k at = cc
+place_of_nonterminal i (T t ∷ right) j k at =
+    let (m, n, is, there) = place_of_nonterminal (i + 1) right j k at in (suc m, n, omega (arith, is), there)
+place_of_nonterminal i (N n ∷ right) zero k at =
+    let same : i ≡ k = cc in (0, n, omega (arith, same), refl)
+place_of_nonterminal i (N n ∷ right) (suc j) k at =
+    let (m, o, is, there) = place_of_nonterminal (i + 1) right j k at in (suc m, o, omega (arith, is), there)
+
+only_one : (places : List ℕ) (k : ℕ) → only places ≡ Some k → slice_get places 0 ≡ Some k
+only_one [] k is = cc
+only_one (i ∷ []) k is = is
+only_one (i ∷ j ∷ more) k is = cc
+
+pub nonterminal_at : (right : List Sym) (k : ℕ) → only_nonterminal right ≡ Some k → (n : ℕ)
+    × (slice_get right k ≡ Some (N n))
+nonterminal_at right k is =
+    let (m, n, place, there) = place_of_nonterminal 0 right 0 k (only_one (nonterminal_places 0 right) k is) in
+    let same : k ≡ m = omega (arith, place) in
+    (n, ap (slice_get right) same ∙ there)
+
+same_number : (m n : ℕ) → ((m ≡ n → ⊥) → ⊥) → m ≡ n
+same_number m n not_other = by (order m n)
+  where
+    by : (m < n) ⊎ ((n < m) ⊎ (m ≡ n)) → m ≡ n
+    by (inl below) = absurd (not_other (λ same. omega (arith, below, same)))
+    by (inr (inl above)) = absurd (not_other (λ same. omega (arith, above, same)))
+    by (inr (inr same)) = same
+
+-- what is built in the end
+module _ (g : NamedGrammar) (ds : List (Declared AstSaying)) (makers : List Maker)
+    (are : AreSourceMakers (table_by ds) makers) (labels : AreApart g.labels)
+    (there : AstHeadFault g ds Unknown → ⊥) (same : AstHeadFault g ds Typing → ⊥) (so : LinesBuild g ds (length ds))
+  where
+    by_default : (label : List ℕ) (rule : Rule) → IsRuleOf g label rule → build_line ds label ≡ None
+        → Builds (nodes_by g ds) rule.right (slice_index (nodes_by g ds).families rule.left)
+        (unwrap_or (default_build (only_nonterminal rule.right)) (var 0))
+    by_default label rule of none = by (only_nonterminal rule.right) refl
+      where
+        by : (found : Option ℕ) → only_nonterminal rule.right ≡ found
+            → Builds (nodes_by g ds) rule.right (slice_index (nodes_by g ds).families rule.left)
+            (unwrap_or (default_build found) (var 0))
+        by None is = absurd (there (no_build label rule of none is))
+        by (Some k) is =
+            let (n, at) = nonterminal_at rule.right k is in
+            let one : slice_index (nodes_by g ds).families n ≡ slice_index (nodes_by g ds).families rule.left =
+            same_number _ _ (λ other. same (other_family label rule k n of none is at other)) in
+            record {
+              makers = makers;
+              are = are;
+              typed = a_var k (ty.Node (slice_index (nodes_by g ds).families rule.left))
+                  (map_get (symbol_type (nodes_by g ds).families) rule.right k (N n) at
+                  ∙ ap (λ f. Some (ty.Node f)) one);
+            }
+
+    by_line : (label : List ℕ) (rule : Rule) (e : Spoken) → IsRuleOf g label rule → build_line ds label ≡ Some e
+        → Builds (nodes_by g ds) rule.right (slice_index (nodes_by g ds).families rule.left)
+        (unwrap_or (build_by (table_by ds) (Some e) rule.right) (var 0))
+    by_line label rule e of is =
+        let line = line_of ds label e is in
+        let node = so.each line.place line.line label e rule (get_fits ds line.place line.line line.at) line.at
+        line.says of in
+        subst (λ o. Builds (nodes_by g ds) rule.right (slice_index (nodes_by g ds).families rule.left)
+        (unwrap_or o (var 0))) (sym node.is) node.builds
+
+    rule_fits : (label : List ℕ) (rule : Rule) → IsRuleOf g label rule
+        → Builds (nodes_by g ds) rule.right (slice_index (nodes_by g ds).families rule.left) (rule_builds ds label rule)
+    rule_fits label rule of = by (build_line ds label) refl
+      where
+        by : (found : Option Spoken) → build_line ds label ≡ found
+            → Builds (nodes_by g ds) rule.right (slice_index (nodes_by g ds).families rule.left)
+            (unwrap_or (build_by (table_by ds) found rule.right) (var 0))
+        by None is = by_default label rule of is
+        by (Some e) is = by_line label rule e of is
+
+    builds_at : (names : List (List ℕ)) (rules : List Rule) (k : ℕ) (label : List ℕ) (rule : Rule)
+        → slice_get names k ≡ Some label
+        → slice_get rules k ≡ Some rule → slice_get (builds_from ds names rules) k ≡ Some (rule_builds ds label rule)
+    builds_at names [] k label rule named at = cc
+    builds_at [] (r ∷ rules) k label rule named at = cc
+    builds_at (l ∷ names) (r ∷ rules) zero label rule named at =
+        let one : l ≡ label = cc in let that : r ≡ rule = cc in ap (λ y. Some (rule_builds ds y r)) one
+        ∙ ap (λ y. Some (rule_builds ds label y)) that
+    builds_at (l ∷ names) (r ∷ rules) (suc k) label rule named at = builds_at names rules k label rule named at
+
+    pub all_build : length g.labels ≡ length g.grammar.rules → AllBuild g ds
+    all_build each k rule e at found =
+        let less = get_fits g.grammar.rules k rule at in
+        let (label, named) = some_at g.labels k (omega (arith, less, each)) in
+        let is : rule_builds ds label rule ≡ e = same_Some_of
+        (sym (builds_at g.labels g.grammar.rules k label rule named at) ∙ found) in
+        subst (Builds (nodes_by g ds) rule.right (slice_index (nodes_by g ds).families rule.left)) is
+        (rule_fits label rule (record {
+          number = k;
+          of_label = number_at_place g.labels label k labels named;
+          is = at;
+        }))
+
+    pub none_is_wrong : (line : ℕ) → HasAt ds (BuildsNoNode g ds) line → ⊥
+    none_is_wrong line has =
+        none_in_all ds (BuildsNoNode g ds) (length ds) refl (λ j e less at fault. by j e less at e.said refl fault)
+        line has
+      where
+        by : (j : ℕ) (e : Declared AstSaying) → j < length ds → slice_get ds j ≡ Some e → (said : AstSaying)
+            → e.said ≡ said → BuildsNoNode g ds j said → ⊥
+        by j e less at _ says (no_node _ label f rule of never) = never (so.each j e label f rule less at says of)
 
 -- lists that have the same elements
 same_builds : (ds : List (Declared AstSaying)) (names : List (List ℕ)) (rules : List Rule) (list : List Expression)
