@@ -1,16 +1,24 @@
 -- The definitions on grammars, tried where the nearest wrong reading differs.
-use Rattle.std.proofs.Common.{◌≡◌, ℕ, zero, suc, ◌+◌, ◌<◌, ◌≤◌, inl, inr, List, [], ◌∷◌, length, take, get_or, slice_get, refl, sym, ap, ◌∙◌, Some, Contains, codes, arith}
+use Rattle.std.proofs.Common.{◌≡◌, ℕ, zero, suc, ◌+◌, ◌<◌, ◌≤◌, inl, inr, true, false, List, [], ◌∷◌, ◌++◌, length, take, get_or, slice_get, refl, sym, ap, ◌∙◌, Some, None, Contains, codes, arith}
 use Rattle.ck_base.specs.declared.fault.Kind.TheVariants.{Limit, Twice, Unknown}
 use Rattle.cfg_model.specs.declared.symbol.Sym.TheVariants.{T, N}
 use Rattle.spec_text.specs.Declares.{Declared, no_lines, HasFault}
 use Rattle.spec_text.specs.FirstFault.{Least, FirstFault, of_kind}
-use Rattle.spec_text.specs.Sections.{SectionLines}
+use Rattle.spec_text.specs.Lexemes.{word, sign, Begins, a_word}
+use Rattle.spec_text.specs.Lines.{Line, none_read, speaks, FileLines}
+use Rattle.spec_text.specs.Reading.{nothing, a_token}
+use Rattle.spec_text.specs.Sections.{SectionLines, part_from, closed, part}
+use Rattle.spec_text.specs.TextLines.{no_lines as no_text, ended}
+use Rattle.spec_text.specs.declared.section.Part.{Part}
+use Rattle.spec_text.specs.declared.section.Section.TheVariants.{Rex, Ell}
+use Rattle.spec_text.proofs.SectionExamples.{word_line, begins_rex, begins_end}
 use Rattle.spec_text.proofs.KindOrder.{before_unknown}
-use Rattle.front_spec.specs.GrammarShapes.{SaidProduction}
+use Rattle.front_spec.specs.GrammarShapes.{SaidProduction, ProductionLine}
 use Rattle.front_spec.specs.GrammarFaults.{nonterminals_in, GrammarFault, second_label, left_is_token, left_is_end, no_symbol, too_many_rules, too_many_symbols, grammar}
 use Rattle.front_spec.specs.GrammarRules.{grammar_by}
-use Rattle.front_spec.specs.GrammarPromise.{judged_grammar}
+use Rattle.front_spec.specs.GrammarPromise.{judged_grammar, HasGrammar}
 use Rattle.front_spec.specs.GrammarSteps.{HasIn}
+use Rattle.front_spec.proofs.OneGrammar.{one_grammar_section, ell_is_grammar}
 use Rattle.front_spec.proofs.ProductionPasses.{head_unknown}
 
 -- `RULE one : s = u a t`, `RULE two : t =`, `RULE three : u = t`
@@ -149,3 +157,56 @@ no_rule_is_unknown tokens =
     none_twice : (line : ℕ) → HasIn tokens 7 [] Twice line → ⊥
     none_twice line (inl has) = let at = has.is in cc
     none_twice line (inr has) = elim has.1 [ ]
+
+-- `RULE one : s =` has an empty right side
+pub empty_right_side :
+    ProductionLine (word (codes "RULE") ∷ word (codes "one") ∷ sign (codes ":") ∷ word (codes "s") ∷ sign (codes "=") ∷ []) first_rule
+empty_right_side = refl
+
+-- a file with the section ELL has no LALR
+abbrev pub ell_file : List ℕ
+ell_file = codes "REX" ++ 10 ∷ (codes "ELL" ++ 10 ∷ (codes "END" ++ 10 ∷ []))
+
+abbrev pub ell_lines : List Line
+ell_lines = word_line 1 0 3 (codes "REX") ∷ word_line 2 4 7 (codes "ELL") ∷ word_line 3 8 11 (codes "END") ∷ []
+
+begins_ell : Begins (codes "ELL") (word (codes "ELL")) 3
+begins_ell = record { fits = omega arith; is_token = a_word 69 (codes "LL") refl refl; longest = λ m other fits form. fits }
+
+ell_read : FileLines ell_file ell_lines 3
+ell_read = record {
+  texts = record { number = 1; at = 0; bytes = codes "REX" } ∷ record { number = 2; at = 4; bytes = codes "ELL" }
+      ∷ record { number = 3; at = 8; bytes = codes "END" } ∷ [];
+  are = ended 1 0 ell_file (codes "REX") (codes "ELL" ++ 10 ∷ (codes "END" ++ 10 ∷ [])) _ refl refl
+      (ended 2 4 (codes "ELL" ++ 10 ∷ (codes "END" ++ 10 ∷ [])) (codes "ELL") (codes "END" ++ 10 ∷ []) _ refl refl
+      (ended 3 8 (codes "END" ++ 10 ∷ []) (codes "END") [] [] refl refl (no_text 4 12)));
+  read = speaks _ _ _ None _ (a_token 0 3 (codes "REX") (word (codes "REX")) [] None begins_rex tt (nothing 3)) (λ is. let e = is.0 in cc)
+      (speaks _ _ _ None _ (a_token 4 3 (codes "ELL") (word (codes "ELL")) [] None begins_ell tt (nothing 7)) (λ is. let e = is.0 in cc)
+      (speaks _ _ _ None _ (a_token 8 3 (codes "END") (word (codes "END")) [] None begins_end tt (nothing 11)) (λ is. let e = is.0 in cc) none_read));
+  all = refl;
+}
+
+abbrev pub ell_parts : List Part
+ell_parts = part_from Rex 0 1 ∷ part_from Ell 1 2 ∷ []
+
+pub ell_there : HasGrammar ell_file true (record { head = 2; inside = [] })
+ell_there = ell_is_grammar ell_file (record { head = 2; inside = [] }) (record {
+  lines = ell_lines;
+  parts = ell_parts;
+  sections = record {
+    count = 3;
+    read = ell_read;
+    are = part 0 0 Rex (word_line 1 0 3 (codes "REX")) [] (word_line 2 4 7 (codes "ELL") ∷ word_line 3 8 11 (codes "END") ∷ []) _ refl
+        (record { good = refl; said = refl }) tt
+        (part 1 1 Ell (word_line 2 4 7 (codes "ELL")) [] (word_line 3 8 11 (codes "END") ∷ []) [] refl (record { good = refl; said = refl }) tt
+        (closed 2 2 (word_line 3 8 11 (codes "END")) (omega arith) (record { good = refl; said = refl })));
+  };
+  part = part_from Ell 1 2;
+  among = (1, omega arith, refl);
+  is = refl;
+  part_is = record { line = word_line 2 4 7 (codes "ELL"); at = refl; head = refl; are = refl };
+})
+
+pub no_lalr_beside_ell : (lines : SectionLines) → HasGrammar ell_file false lines → ⊥
+no_lalr_beside_ell lines has =
+    let same = (one_grammar_section ell_file true false (record { head = 2; inside = [] }) lines ell_there has).0 in cc

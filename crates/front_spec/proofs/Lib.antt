@@ -16,4 +16,5 @@ mod ReadGrammar
 pub mod OneRex
 pub mod OneGrammar
 pub mod RexExamples
+mod ShapeExamples
 mod GrammarExamples

@@ -42,7 +42,7 @@ module _ {V W : Type 0} (f : V → W) (P : Part V) (F : Follow) where
   }
 
 -- an expression ends before `/` and `:`
-ends_at : (code : ℕ) (rest : List Lexeme) → (code ≡ 42 → ⊥) → (code ≡ 43 → ⊥) → (code ≡ 63 → ⊥) → (code ≡ 46 → ⊥) → (code ≡ 40 → ⊥) → (code ≡ 124 → ⊥)
+pub ends_at : (code : ℕ) (rest : List Lexeme) → (code ≡ 42 → ⊥) → (code ≡ 43 → ⊥) → (code ≡ 63 → ⊥) → (code ≡ 46 → ⊥) → (code ≡ 40 → ⊥) → (code ≡ 124 → ⊥)
     → EndsRegex (sign (code ∷ []) ∷ rest)
 ends_at code rest one two three four five six = record {
   row = record {

@@ -30,4 +30,6 @@ pub mod SomeReading
 pub mod SomeSections
 pub mod SectionExamples
 mod Examples
+mod LineExamples
+mod FaultExamples
 pub mod KindOrder

@@ -28,10 +28,10 @@ rex_end_lines = word_line 1 0 3 (codes "REX") ∷ word_line 2 4 7 (codes "END") 
 abbrev pub rex_end_parts : List Part
 rex_end_parts = part_from Rex 0 1 ∷ []
 
-begins_rex : Begins (codes "REX") (word (codes "REX")) 3
+pub begins_rex : Begins (codes "REX") (word (codes "REX")) 3
 begins_rex = record { fits = omega arith; is_token = a_word 82 (codes "EX") refl refl; longest = λ m other fits form. fits }
 
-begins_end : Begins (codes "END") (word (codes "END")) 3
+pub begins_end : Begins (codes "END") (word (codes "END")) 3
 begins_end = record { fits = omega arith; is_token = a_word 69 (codes "ND") refl refl; longest = λ m other fits form. fits }
 
 pub rex_end_read : FileLines rex_end_file rex_end_lines 2
