@@ -1,5 +1,6 @@
 -- The definitions, tried on known cases.
-use Rattle.std.proofs.Common.{◌≡◌, ℕ, zero, suc, ◌^◌, inl, inr, refl, sym, ap, subst, lit<, arith, List, [], ◌∷◌, length, Some, None, Vec, Global, slice_index, bit_or, ◌/◌, ◌%◌}
+use Rattle.std.proofs.Common.{◌≡◌, ℕ, zero, suc, ◌<◌, ◌⊎◌, ◌^◌, inl, inr, refl, sym, ap, subst, ◌∙◌, lit<, arith, List, [], ◌∷◌, length, Some, None, Vec, Global, slice_get, slice_index, bit_or, ◌/◌, ◌%◌}
+use Rattle.std.proofs.lemmas.Option.{none-some, same_Some}
 use Rattle.std.specs.Prelude.{codes, IsBitSet}
 use Rattle.std.specs.Fmt.{digits}
 use Rattle.ck_base.specs.declared.fault.Kind.TheVariants.{Syntax, Typing}
@@ -7,9 +8,13 @@ use Rattle.ck_base.specs.declared.lines.TheConstants.{USAGE_LINE, READ_LINE, WRI
 use Rattle.ck_base.specs.declared.refusal.Refusal.TheVariants.{Usage, BadSpec, Unproductive, LalrConflict, LlConflict, SourceTooLong, BadToken, SpentBudget, UsedUp}
 use Rattle.ck_base.specs.declared.status.Status.TheVariants as status
 use Rattle.ck_base.specs.BitSet.{BitSet, Has, IsEmpty, Adds, Grew}
+use Rattle.ck_base.specs.Counts.{HasMoreThan}
+use Rattle.ck_base.specs.Found.{Finds}
 use Rattle.ck_base.specs.Lines.{line_of, status_of, code_of}
 use Rattle.ck_base.specs.Numbered.{texts, AreNumbered, number_of, met}
+use Rattle.ck_base.specs.Represents.{Represents}
 use Rattle.ck_base.specs.Words.{IsFit, AreJoined, Differ}
+use Rattle.ck_base.proofs.Counting.{not_more}
 
 -- the kind stands after the line
 syntax_of_line_2 : line_of (BadSpec 2 Syntax) ≡ codes "spec:2: syntax"
@@ -191,3 +196,73 @@ no_doubles numbered = omega (arith, numbered.apart 0 1 (codes "a") refl refl)
 -- 2 ^ 32 names are too many: how many there are wouldn't fit 32 bits
 too_many : (names : List (List ℕ)) → length names ≡ 2 ^ 32 → AreNumbered names → ⊥
 too_many names many numbered = omega (arith, numbered.few, many)
+
+-- an element of two values is one of them
+of_two : (x y i n : ℕ) → slice_get (x ∷ y ∷ []) i ≡ Some n → ((i ≡ 0) × (x ≡ n)) ⊎ ((i ≡ 1) × (y ≡ n))
+of_two x y zero n is = inl (refl, same_Some x n is)
+of_two x y (suc zero) n is = inr (refl, same_Some y n is)
+of_two x y (suc (suc i)) n is = absurd (none-some n is)
+
+-- numbers below 4, those with the same rest by 2 alike
+abbrev below_4 : ℕ → Type 0
+below_4 n = n < 4
+
+abbrev same_rest : ℕ → ℕ → Type 0
+same_rest n m = n % 2 ≡ m % 2
+
+-- there is more than one of them: 0 and 1 aren't alike
+more_than_one : HasMoreThan below_4 same_rest 1
+more_than_one = record {
+  some = 0 ∷ 1 ∷ [];
+  each = λ i n is. elim (of_two 0 1 i n is) [ inl one ↦ omega (arith, one.1) | inr other ↦ omega (arith, other.1) ];
+  apart = λ i j n m is_n is_m same. elim (of_two 0 1 i n is_n) [
+    | inl one ↦ elim (of_two 0 1 j m is_m) [ inl two ↦ omega (arith, one, two) | inr two ↦ omega (arith, one, two, same) ]
+    | inr one ↦ elim (of_two 0 1 j m is_m) [ inl two ↦ omega (arith, one, two, same) | inr two ↦ omega (arith, one, two) ]
+  ];
+  many = lit< tt;
+}
+
+-- and no more than two, since 2 and 3 are alike to those
+no_more_than_two : HasMoreThan below_4 same_rest 2 → ⊥
+no_more_than_two = not_more below_4 same_rest 2 (λ n rest. n % 2 ≡ rest) (λ n below. (n % 2, omega arith, refl))
+    (λ n m rest below_n below_m one other. one ∙ sym other)
+
+-- an even and an odd one stand for all
+even_and_odd : Represents below_4 same_rest (2 ∷ 1 ∷ [])
+even_and_odd = record {
+  each = λ i n is. elim (of_two 2 1 i n is) [ inl one ↦ omega (arith, one.1) | inr other ↦ omega (arith, other.1) ];
+  apart = λ i j n m is_n is_m same. elim (of_two 2 1 i n is_n) [
+    | inl one ↦ elim (of_two 2 1 j m is_m) [ inl two ↦ omega (arith, one, two) | inr two ↦ omega (arith, one, two, same) ]
+    | inr one ↦ elim (of_two 2 1 j m is_m) [ inl two ↦ omega (arith, one, two, same) | inr two ↦ omega (arith, one, two) ]
+  ];
+  all = all;
+}
+  where
+    all : (n : ℕ) → n < 4 → (i m : ℕ) × (slice_get (2 ∷ 1 ∷ []) i ≡ Some m) × (n % 2 ≡ m % 2)
+    all zero below = (0, 2, refl, refl)
+    all (suc zero) below = (1, 1, refl, refl)
+    all (suc (suc zero)) below = (0, 2, refl, refl)
+    all (suc (suc (suc zero))) below = (1, 1, refl, refl)
+    all (suc (suc (suc (suc n)))) below = absurd (omega arith)
+
+-- no sort is there twice, and none is missing
+even_twice : Represents below_4 same_rest (0 ∷ 1 ∷ 2 ∷ []) → ⊥
+even_twice all = omega (arith, all.apart 0 2 0 2 refl refl refl)
+
+odd_missing : Represents below_4 same_rest (0 ∷ []) → ⊥
+odd_missing all = let (i, n, is, same) = all.all 1 (lit< tt) in none_odd i n is same
+  where
+    none_odd : (i n : ℕ) → slice_get (0 ∷ []) i ≡ Some n → 1 % 2 ≡ n % 2 → ⊥
+    none_odd zero n is same = omega (arith, same_Some 0 n is, same)
+    none_odd (suc i) n is same = none-some n is
+
+-- a search that answers None found that there is none: it doesn't give up
+gave_up : Finds (λ (n : ℕ). n) below_4 None → ⊥
+gave_up none = none 2 (lit< tt)
+
+found_none : Finds (λ (n : ℕ). n) (λ n. n < 0) None
+found_none n below = omega (arith, below)
+
+-- what it finds is seen as one of the kind: three bytes, and not four
+found_bytes : Finds length below_4 (Some (codes "abc")) × (Finds length below_4 (Some (codes "abcd")) → ⊥)
+found_bytes = (lit< tt, λ below. omega (arith, below))

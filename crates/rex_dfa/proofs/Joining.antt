@@ -11,7 +11,6 @@ use Rattle.rex_dfa.specs.within.Positions.{set_with, TakesAt, FollowsAt, NextOf,
 use Rattle.rex_dfa.specs.declared.positions.Positions.{Positions}
 
 module _ (positions : Positions) (words : List ℕ) (byte : ℕ) where
-
   pub join_goes_on : (i : ℕ) (to : BitSet) → Joining positions words byte i to
       → (Has (set_with positions words) i × TakesAt positions i byte → ⊥) → Joining positions words byte (i + 1) to
   join_goes_on i to before none = record {

@@ -4,6 +4,7 @@ mod CountsOfSets
 mod CutWords
 mod DeadDfa
 mod DfaOfSets
+mod Examples
 mod FollowRows
 mod Joining
 mod MadeSplit

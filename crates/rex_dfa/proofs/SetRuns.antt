@@ -36,7 +36,6 @@ module _ (takes follow : ℕ → ℕ → Type 0) where
 
   module _ (set : ℕ → ℕ → Type 0) (count : ℕ) (dfa : Automaton) (few : count ≤ nowhere)
       (moves : (s byte : ℕ) → s < count → byte < 256 → Stands set count (Next takes follow (set s) byte) (moved dfa s byte)) where
-
     pub run_stands : (w : List ℕ) (P : ℕ → Type 0) (s : ℕ) → AreBytes w → Stands set count P s
         → Stands set count (ComesNext takes follow P w) (run dfa s w)
     run_stands [] P s bytes stands = stands_alike set count s (comes_at_once P) stands

@@ -26,6 +26,7 @@ mod ScanOfWinner
 mod SetExamples
 mod StepOfParts
 mod StepOfString
+mod TableExamples
 pub mod TakersOfParts
 mod WinnerExamples
 pub mod Within

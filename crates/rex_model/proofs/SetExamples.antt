@@ -1,12 +1,14 @@
 -- Sets of positions and automata, tried on cases that are worked by hand.
-use Rattle.std.proofs.Common.{◌≡◌, ℕ, true, false, List, [], ◌∷◌, Some, None, refl, inl, inr, arith}
+use Rattle.std.proofs.Common.{◌≡◌, ℕ, zero, suc, ◌+◌, ◌*◌, ◌<◌, Bool, true, false, List, [], ◌∷◌, length, Some, None, slice_get, refl, sym, ap, subst, ◌∙◌, lit<, inl, inr, arith}
+use Rattle.std.proofs.lemmas.Option.{none-some, same_Some}
 use Rattle.std.specs.Prelude.{codes}
+use Rattle.ck_base.proofs.Representing.{element_at}
 use Rattle.rex_model.specs.Language.{Re, bytes}
 use Rattle.rex_model.specs.Positions.{position_count}
-use Rattle.rex_model.specs.Rules.{Rule}
+use Rattle.rex_model.specs.Rules.{Rule, Rules}
 use Rattle.rex_model.specs.Runs.{Automaton, nowhere, moved, accepted}
-use Rattle.rex_model.specs.ScanSets.{InScanSet}
-use Rattle.rex_model.specs.Sets.{Goes, there, on, marked_rules, FirstOfActive, FirstBackwards, FollowBackwards}
+use Rattle.rex_model.specs.ScanSets.{InScanSet, HasMoreScanSets, SplitWay, IsSplitWay, IsSameSplitSet, HasMoreSplitSets}
+use Rattle.rex_model.specs.Sets.{Goes, there, on, marked_rules, FirstOfActive, FirstBackwards, FollowBackwards, IsScanner}
 use Rattle.rex_model.specs.Tables.{Halves, split_of}
 
 -- "a" where "b" follows, in each state
@@ -89,3 +91,88 @@ first_split : split_of (record { rule = 3; forward = one_state; backward = one_s
     ∷ record { rule = 3; forward = record { moves = []; accepts = [] }; backward = one_state } ∷ []) 3
     ≡ Some (record { rule = 3; forward = one_state; backward = one_state })
 first_split = refl
+
+-- "a" in each state
+abbrev always_a : Rule
+always_a = record a_before_b { context = None }
+
+-- one rule, for this string
+abbrev of_string : List ℕ → Rules
+of_string string = record { states = codes "STD" ∷ []; tokens = []; list = record always_a { body = bytes string } ∷ [] }
+
+-- with its end mark a string of 4,095 bytes has as many positions as there may be
+within_the_limit : (string : List ℕ) → length string ≡ 4095 → IsScanner (of_string string)
+within_the_limit string many = record { few = omega (arith, many); next = next }
+  where
+    next : (i n : ℕ) (rule : Rule) → slice_get (of_string string).list i ≡ Some rule → rule.next ≡ Some n → n < 1
+    next zero n rule is named = absurd (none-some n (ap (λ (r : Rule). r.next) (same_Some (record always_a { body = bytes string }) rule is) ∙ named))
+    next (suc i) n rule is named = absurd (none-some rule is)
+
+mark_past_the_limit : (string : List ℕ) → length string ≡ 4096 → IsScanner (of_string string) → ⊥
+mark_past_the_limit string many scanner = omega (arith, scanner.few)
+
+-- a next state is one of those that there are
+no_such_state : IsScanner (record { states = codes "STD" ∷ []; tokens = []; list = record always_a { next = Some 1 } ∷ [] }) → ⊥
+no_such_state scanner = omega (arith, scanner.next 0 1 (record always_a { next = Some 1 }) refl refl)
+
+-- a rule that is active in no state has only the empty set, which doesn't count
+empty_set_apart : HasMoreScanSets (never ∷ []) 1 0 → ⊥
+empty_set_apart more =
+    let (way, is) = element_at more.some 0 more.many in
+    (more.each 0 way is).filled (λ q next. none_first way.start next.0 next.1)
+  where
+    none_first : (state p : ℕ) → FirstOfActive (never ∷ []) state 0 p → ⊥
+    none_first state p (inl (active, first)) = (cc)
+    none_first state p (inr none) = elim none [ ]
+
+-- nothing, where nothing must follow, twice
+abbrev nothing : Rule
+nothing = record a_before_b { body = bytes []; context = Some (bytes []) }
+
+abbrev twice_nothing : List Rule
+twice_nothing = nothing ∷ nothing ∷ []
+
+-- before any byte, in one of the automata of a rule's split
+abbrev begin_of : ℕ → Bool → SplitWay
+begin_of rule backward = record { rule = rule; backward = backward; word = [] }
+
+-- there only the end mark comes
+mark_there : (rule : ℕ) (backward : Bool) → slice_get twice_nothing rule ≡ Some nothing → IsSplitWay twice_nothing (begin_of rule backward)
+mark_there rule false is = record {
+  bytes = λ k d within. absurd (omega (arith, within));
+  filled = λ none. none 0 (nothing, bytes [], is, refl, (0, inr (refl, refl), there 0));
+}
+mark_there rule true is = record {
+  bytes = λ k d within. absurd (omega (arith, within));
+  filled = λ none. none 0 (nothing, bytes [], is, refl, (0, inr (refl, refl), there 0));
+}
+
+-- these are four sets of two splits, though all are alike
+abbrev begins : List SplitWay
+begins = begin_of 0 false ∷ begin_of 0 true ∷ begin_of 1 false ∷ begin_of 1 true ∷ []
+
+-- where such a begin stands among them
+abbrev place : ℕ → Bool → ℕ
+place rule false = 2 * rule
+place rule true = 2 * rule + 1
+
+four_of_two_splits : HasMoreSplitSets twice_nothing 3
+four_of_two_splits = record { some = begins; each = each; apart = apart; many = lit< tt }
+  where
+    each : (i : ℕ) (way : SplitWay) → slice_get begins i ≡ Some way → IsSplitWay twice_nothing way
+    each zero way is = subst (IsSplitWay twice_nothing) (same_Some (begin_of 0 false) way is) (mark_there 0 false refl)
+    each (suc zero) way is = subst (IsSplitWay twice_nothing) (same_Some (begin_of 0 true) way is) (mark_there 0 true refl)
+    each (suc (suc zero)) way is = subst (IsSplitWay twice_nothing) (same_Some (begin_of 1 false) way is) (mark_there 1 false refl)
+    each (suc (suc (suc zero))) way is = subst (IsSplitWay twice_nothing) (same_Some (begin_of 1 true) way is) (mark_there 1 true refl)
+    each (suc (suc (suc (suc i)))) way is = absurd (none-some way is)
+
+    stands : (i : ℕ) (way : SplitWay) → slice_get begins i ≡ Some way → i ≡ place way.rule way.backward
+    stands zero way is = subst (λ (w : SplitWay). 0 ≡ place w.rule w.backward) (same_Some (begin_of 0 false) way is) refl
+    stands (suc zero) way is = subst (λ (w : SplitWay). 1 ≡ place w.rule w.backward) (same_Some (begin_of 0 true) way is) refl
+    stands (suc (suc zero)) way is = subst (λ (w : SplitWay). 2 ≡ place w.rule w.backward) (same_Some (begin_of 1 false) way is) refl
+    stands (suc (suc (suc zero))) way is = subst (λ (w : SplitWay). 3 ≡ place w.rule w.backward) (same_Some (begin_of 1 true) way is) refl
+    stands (suc (suc (suc (suc i)))) way is = absurd (none-some way is)
+
+    apart : (i j : ℕ) (a b : SplitWay) → slice_get begins i ≡ Some a → slice_get begins j ≡ Some b → IsSameSplitSet twice_nothing a b → i ≡ j
+    apart i j a b is_a is_b same = stands i a is_a ∙ subst (λ r. place a.rule a.backward ≡ place r b.backward) same.rule
+        (ap (place a.rule) same.backward) ∙ sym (stands j b is_b)
