@@ -43,7 +43,7 @@ conflict_too = record {
 }
 
 left_is_reported : IsRefused lists (refused.LeftRecursive 0)
-left_is_reported = (derives_all, (([], [], none), left_at_once), λ m is. omega arith)
+left_is_reported = (derives_all, ((([], [], none), left_at_once), λ m is. omega arith))
 
 no_conflict_reported : (n r q t : ℕ) → IsRefused lists (refused.LlConflict n r q t) → ⊥
 no_conflict_reported n r q t is = is.1 0 ([], [], none) left_at_once
