@@ -76,7 +76,7 @@ second_first : Step lists (N 0 ∷ N 0 ∷ []) (N 0 ∷ T 0 ∷ [])
 second_first = step 2 0 (T 0 ∷ []) (N 0 ∷ []) [] single
 
 -- a step replaces one nonterminal
-abbrev pending : List Sym → ℕ
+abbrev pub pending : List Sym → ℕ
 pending [] = 0
 pending (T t ∷ u) = pending u
 pending (N n ∷ u) = pending u + 1
@@ -100,7 +100,7 @@ not_at_once s = let (some, most) = one_place lists (N 0 ∷ N 0 ∷ []) (T 0 ∷
 unchanged : Steps lists (T 0 ∷ []) (T 0 ∷ [])
 unchanged = none
 
-stays : (g : Cfg) (u v : List Sym) → pending u ≡ 0 → Steps g u v → v ≡ u
+pub stays : (g : Cfg) (u v : List Sym) → pending u ≡ 0 → Steps g u v → v ≡ u
 stays g u _ free none = refl
 stays g u _ free (more v w steps s) =
     let same = stays g u v free steps in

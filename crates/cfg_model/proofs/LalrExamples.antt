@@ -3,13 +3,13 @@ use Rattle.std.proofs.Common.{◌≡◌, ◌≢◌, ℕ, zero, suc, ◌+◌, ◌
 use Rattle.cfg_model.specs.declared.symbol.Sym.{Sym}
 use Rattle.cfg_model.specs.declared.symbol.Sym.TheVariants.{T, N}
 use Rattle.cfg_model.specs.Cfg.{Cfg, Rule, IsRule}
-use Rattle.cfg_model.specs.Steps.{step, Steps, none, more}
+use Rattle.cfg_model.specs.Steps.{step, Steps, none, more, word}
 use Rattle.cfg_model.specs.Valid.{first_of, Begins, Valid, start, closure, move, InCore, SameCore, HasCore, Look, Spreads}
 use Rattle.cfg_model.specs.Cores.{CoreList, IsCore, IsCores, FirstMet, Before, Rising, none as no_moves, one as one_move, more as and_moves, targets, HasMoreCores}
 use Rattle.cfg_model.specs.LalrConflicts.{Completes, Shifts, LalrConflict, LalrReport}
 use Rattle.cfg_model.proofs.LooksSpread.{same_self, same_back, valid_spreads}
 use Rattle.cfg_model.proofs.RuleZero.{zero_prefix}
-use Rattle.cfg_model.proofs.GrammarExamples.{as_rule, by_rules}
+use Rattle.cfg_model.proofs.GrammarExamples.{as_rule, by_rules, stays}
 
 -- S = A D, S = B E, S = X A E, S = X B D, A = C, B = C
 abbrev crossed : Cfg
@@ -151,6 +151,38 @@ no_core (r, d, y, (a, v)) = nothing (T 0 ∷ []) r d y a refl v
 -- E is ahead of A = C . behind C, though for X C alone
 e_from_behind_x : Look crossed (T 3 ∷ []) 5 1 [] 1
 e_from_behind_x = (T 3 ∷ T 2 ∷ [], same_behind_c, a_with_e)
+
+-- for C alone it isn't ahead, since A stands before D there: at the beginning only D is behind A
+d_behind_a : (q z y : List Sym) (r d a : ℕ) → q ≡ [] → z ≡ N 1 ∷ y → Valid crossed q r d z a → y ≡ T 0 ∷ []
+d_behind_a q z y r d a e f start = cc
+d_behind_a q z y r d a e f (closure _ r2 d2 n y2 a2 s b _ v is begins) = by_rules crossed (λ r n w. w ≡ N 1 ∷ y → y ≡ T 0 ∷ [])
+    ((λ e. cc), ((λ e. cc), ((λ e. cc), ((λ e. cc), ((λ e. cc), ((λ e. cc), tt)))))) r n z is f
+d_behind_a q z y r d a e f (move p2 r2 d2 x _ _ v) = cc
+
+d_ahead : (q z : List Sym) (r d a : ℕ) → q ≡ [] → r ≡ 5 → Valid crossed q r d z a → a ≡ 0
+d_ahead q z r d a e five start = absurd (omega (arith, five))
+d_ahead q z r d a e five (closure _ r2 d2 n y2 a2 s b _ v is (w, derives, first)) =
+    let one : n ≡ 1 = by_rules crossed (λ r n w. r ≡ 5 → n ≡ 1)
+        ((λ e. absurd (omega (arith, e))), ((λ e. absurd (omega (arith, e))), ((λ e. absurd (omega (arith, e))), ((λ e. absurd (omega (arith, e))),
+        ((λ e. refl), ((λ e. absurd (omega (arith, e))), tt)))))) r n z is five in
+    let rest = d_behind_a q (N n ∷ y2) y2 r2 d2 a2 e (ap (λ k. N k ∷ y2) one) v in
+    begins_with w a2 (stays crossed (T 0 ∷ []) (word w) refl (subst (λ l. Steps crossed l (word w)) rest derives)) first
+  where
+    begins_with : (w : List ℕ) (a2 : ℕ) → word w ≡ T 0 ∷ [] → first_of w a2 ≡ a → a ≡ 0
+    begins_with [] a2 same first = cc
+    begins_with (b ∷ w) a2 same first =
+        let head : T b ≡ T 0 = cc in
+        let zero_is : b ≡ 0 = cc in
+        omega (arith, zero_is, first)
+d_ahead q z r d a e five (move p2 r2 d2 x _ _ v) = cc
+
+d_behind_c : (q y : List Sym) (r d a : ℕ) → q ≡ T 3 ∷ [] → r ≡ 5 → d ≡ 1 → Valid crossed q r d y a → a ≡ 0
+d_behind_c q y r d a e five one start = cc
+d_behind_c q y r d a e five one (closure _ r2 d2 n y2 a2 s b _ v is begins) = absurd (omega (arith, one))
+d_behind_c q y r d a e five one (move p2 r2 d2 x _ _ v) = (let before : p2 ≡ [] = cc in d_ahead p2 (x ∷ y) r d2 a before five v)
+
+not_for_c_alone : Valid crossed (T 3 ∷ []) 5 1 [] 1 → ⊥
+not_for_c_alone v = let same = d_behind_c (T 3 ∷ []) [] 5 1 1 refl refl refl v in omega (arith, same)
 
 -- it spreads from the core behind X
 e_spreads : Spreads crossed (T 3 ∷ []) 5 1 [] 1
