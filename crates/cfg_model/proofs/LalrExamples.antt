@@ -140,6 +140,7 @@ no_core (r, d, y, (a, v)) = nothing (T 0 ∷ []) r d y a refl v
     at_start q z y r d a e f (closure _ r2 d2 n y2 a2 s b _ v is begins) = by_rules crossed (λ r n w. w ≡ T 0 ∷ y → ⊥)
         ((λ e. cc), ((λ e. cc), ((λ e. cc), ((λ e. cc), ((λ e. cc), ((λ e. cc), tt)))))) r n z is f
     at_start q z y r d a e f (move p2 r2 d2 x _ _ v) = cc
+
     nothing : (q : List Sym) (r d : ℕ) (y : List Sym) (a : ℕ) → q ≡ T 0 ∷ [] → Valid crossed q r d y a → ⊥
     nothing q r d y a e start = cc
     nothing q r d y a e (closure _ r2 d2 n y2 a2 s b _ v is begins) = nothing q r2 d2 (N n ∷ y2) a2 e v
@@ -162,9 +163,19 @@ d_behind_a q z y r d a e f (move p2 r2 d2 x _ _ v) = cc
 d_ahead : (q z : List Sym) (r d a : ℕ) → q ≡ [] → r ≡ 5 → Valid crossed q r d z a → a ≡ 0
 d_ahead q z r d a e five start = absurd (omega (arith, five))
 d_ahead q z r d a e five (closure _ r2 d2 n y2 a2 s b _ v is (w, derives, first)) =
-    let one : n ≡ 1 = by_rules crossed (λ r n w. r ≡ 5 → n ≡ 1)
-        ((λ e. absurd (omega (arith, e))), ((λ e. absurd (omega (arith, e))), ((λ e. absurd (omega (arith, e))), ((λ e. absurd (omega (arith, e))),
-        ((λ e. refl), ((λ e. absurd (omega (arith, e))), tt)))))) r n z is five in
+    let one : n ≡ 1 = by_rules crossed (λ r n w. r ≡ 5 → n ≡ 1) (
+      (λ e. absurd (omega (arith, e))),
+      (
+        (λ e. absurd (omega (arith, e))),
+        (
+          (λ e. absurd (omega (arith, e))),
+          (
+            (λ e. absurd (omega (arith, e))),
+            ((λ e. refl), ((λ e. absurd (omega (arith, e))), tt)),
+          ),
+        ),
+      ),
+    ) r n z is five in
     let rest = d_behind_a q (N n ∷ y2) y2 r2 d2 a2 e (ap (λ k. N k ∷ y2) one) v in
     begins_with w a2 (stays crossed (T 0 ∷ []) (word w) refl (subst (λ l. Steps crossed l (word w)) rest derives)) first
   where
@@ -300,8 +311,9 @@ shift_reported = record { conflict = beside_shift; terminal = λ u s o c. omega 
 no_rule_before_shift : LalrReport doubled 0 1 (Some 2) → ⊥
 no_rule_before_shift is = is.least None beside_shift
 
-no_shift_of_higher_rule : LalrReport doubled 0 2 None → ⊥
-no_shift_of_higher_rule is = let most = is.rule 1 (Some 2) beside_rule in omega (arith, most)
+-- a lower rule beside a rule counts before a shift beside a higher one, and a terminal before the rules
+lower_rule_first : (g : Cfg) (t : ℕ) → LalrConflict g t 1 (Some 3) → LalrReport g t 2 None → ⊥
+lower_rule_first g t lower is = let most = is.rule 1 (Some 3) lower in omega (arith, most)
 
-terminal_first : (o : Option ℕ) → LalrReport doubled 2 1 o → ⊥
-terminal_first o is = let most = is.terminal 0 1 None beside_shift in omega (arith, most)
+lower_terminal_first : (g : Cfg) (o : Option ℕ) → LalrConflict g 0 2 None → LalrReport g 1 1 o → ⊥
+lower_terminal_first g o lower is = let most = is.terminal 0 2 None lower in omega (arith, most)
