@@ -18,7 +18,6 @@ module _ (rows : List BitSet) (null : BitSet) (list : List Sym) where
     pub vanish : AllPass false (Has null) rest ↔ AllPass false (Has null) list
 
   module _ (rest : List Sym) (old now new : BitSet) where
-
     pub begin_stop : (n : ℕ) → Beginning (N n ∷ rest) old now → Adds now new (λ t. In rows n t) → (Has null n → ⊥)
         → Adds old new (Begins rows null list) × (AllPass false (Has null) list → ⊥)
     begin_stop n so_far adds lacks = (

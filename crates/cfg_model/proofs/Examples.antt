@@ -26,7 +26,7 @@ rule_a = record { place = 0; from_one = refl; read = refl }
 rule_b : IsRule rights 2 1 (T 0 ∷ N 1 ∷ [])
 rule_b = record { place = 1; from_one = refl; read = refl }
 
-rule_c : IsRule rights 3 1 []
+pub rule_c : IsRule rights 3 1 []
 rule_c = record { place = 2; from_one = refl; read = refl }
 
 -- the derivation of xx, and its steps: rule 3 is done before rule 2, and rule 1 last
@@ -47,11 +47,11 @@ xx_steps = refl
 end_follows : Follow rights 1 1
 end_follows = (T 0 ∷ [], [], more _ _ none (step 1 0 (T 0 ∷ N 1 ∷ []) [] (T 1 ∷ []) rule_a))
 
-for_end : Predicts rights 1 1 3
+pub for_end : Predicts rights 1 1 3
 for_end = record { right = []; is_rule = rule_c; for_terminal = inr (none, end_follows) }
 
 -- S = A S, S = X, A =: S derives itself and is left recursive behind what vanishes
-abbrev hides : Cfg
+abbrev pub hides : Cfg
 hides = record {
   terminals = 1;
   nonterminals = 2;
@@ -71,11 +71,11 @@ cycle = (N 1 ∷ N 0 ∷ [], more _ _ none (step 1 0 (N 1 ∷ N 0 ∷ []) [] [] 
 hidden : HiddenLeft hides 0
 hidden = (N 1 ∷ [], [], (λ e. cc), more _ _ none (step 3 1 [] [] [] empty_rule), (N 0 ∷ [], none, step 1 0 (N 1 ∷ N 0 ∷ []) [] [] first_rule))
 
-left : LeftRecursive hides 0
+pub left : LeftRecursive hides 0
 left = (N 1 ∷ [], [], more _ _ none (step 3 1 [] [] [] empty_rule), (N 0 ∷ [], none, step 1 0 (N 1 ∷ N 0 ∷ []) [] [] first_rule))
 
 -- S = X, U = S Y with U unreachable: Y doesn't follow S
-abbrev apart : Cfg
+abbrev pub apart : Cfg
 apart = record {
   terminals = 2;
   nonterminals = 2;
@@ -120,24 +120,24 @@ none_no_sentence (f, d) = by_rule (N 0 ∷ []) f refl d.from_start (sym d.yields
         begins_with_x w (N 1 ∷ []) children right c (both_empty (yield children) (yield f) none_is).0
 
 -- in S = X, U = S Y no sentential form has Y or U, so Y doesn't follow S though a rule has it there
-abbrev Clean : List Sym → Type 0
+abbrev pub Clean : List Sym → Type 0
 Clean [] = Unit {0}
 Clean (T t ∷ u) = (t ≡ 1 → ⊥) × Clean u
 Clean (N n ∷ u) = (n ≡ 0) × Clean u
 
-clean_after : (x w y : List Sym) (n : ℕ) → Clean w → Clean (x ++ (N n ∷ y)) → Clean (x ++ (w ++ y))
+pub clean_after : (x w y : List Sym) (n : ℕ) → Clean w → Clean (x ++ (N n ∷ y)) → Clean (x ++ (w ++ y))
 clean_after [] [] y n clean all = all.1
 clean_after [] (T t ∷ w) y n clean all = (clean.0, clean_after [] w y n clean.1 all)
 clean_after [] (N m ∷ w) y n clean all = (clean.0, clean_after [] w y n clean.1 all)
 clean_after (T t ∷ x) w y n clean all = (all.0, clean_after x w y n clean all.1)
 clean_after (N m ∷ x) w y n clean all = (all.0, clean_after x w y n clean all.1)
 
-clean_there : (x y : List Sym) (n : ℕ) → Clean (x ++ (N n ∷ y)) → (n ≡ 0) × Clean y
+pub clean_there : (x y : List Sym) (n : ℕ) → Clean (x ++ (N n ∷ y)) → (n ≡ 0) × Clean y
 clean_there [] y n all = all
 clean_there (T t ∷ x) y n all = clean_there x y n all.1
 clean_there (N m ∷ x) y n all = clean_there x y n all.1
 
-clean_rule : (place : ℕ) (w : List Sym) → slice_get apart.rules place ≡ Some (record { left = 0; right = w }) → Clean w
+pub clean_rule : (place : ℕ) (w : List Sym) → slice_get apart.rules place ≡ Some (record { left = 0; right = w }) → Clean w
 clean_rule zero w read =
     let same : as_rule 0 (T 0 ∷ []) ≡ as_rule 0 w = cc in
     subst Clean (ap (λ (r : Rule). r.right) same) ((λ e. cc), tt)

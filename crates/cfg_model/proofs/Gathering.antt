@@ -20,7 +20,6 @@ pub all_of_at : {A : Type 0} (P : A → Type 0) (xs : List A) → ((x : A) → A
 all_of_at P xs each = λ k d lt. each (get_or xs k d) (k, slice_get-get_or xs k d lt)
 
 module _ {A : Type 0} where
-
   pub gathers_same : (old now : List A) (P Q : A → Type 0) → Gathers old now P → ((x : A) → P x → Q x) → ((x : A) → Q x → P x) → Gathers old now Q
   gathers_same old now P Q before to from = record {
     kept = before.kept;
@@ -73,7 +72,6 @@ abbrev as_rule : ℕ → List Sym → Rule
 as_rule n w = record { left = n; right = w }
 
 module _ (left : ℕ) (w : List Sym) (old now : List Edge) where
-
   pub down_more : (n : ℕ) → Gathers old now (IsDown left w) → Gathers old (now ++ (record { from = left; to = n } ∷ [])) (IsDown left (N n ∷ w))
   down_more n before = gathers_push old now (record { from = left; to = n }) (IsDown left w) (IsDown left (N n ∷ w)) before
       (λ e (from, stands). (from, inr stands))

@@ -96,7 +96,6 @@ as_rule n w = record { left = n; right = w }
 
 -- the rules before the place
 module _ (g : Cfg) (null : BitSet) (met : List BitSet) where
-
   pub hidden_rule : (i : ℕ) (one : Rule) (old mid new : List BitSet) → slice_get g.rules i ≡ Some one → JoinsRows old mid (IsHiddenBefore g null met i)
       → JoinsRows mid new (λ n t. (n ≡ one.left) × FrontMeets null met false one.right t) → JoinsRows old new (IsHiddenBefore g null met (i + 1))
   hidden_rule i one old mid new is a b = joins_then old mid new (IsHiddenBefore g null met i) (λ n t. (n ≡ one.left) × FrontMeets null met false one.right t) (IsHiddenBefore g null met (i + 1)) a b

@@ -110,7 +110,6 @@ module _ (g : Cfg) (reach : BitSet) (P : List Sym → Type 0) (i : ℕ) (one : R
   ]
 
 module _ (g : Cfg) (firsts : List BitSet) (null reach : BitSet) where
-
   module _ (i : ℕ) (one : Rule) (is : slice_get g.rules i ≡ Some one) (old mid : List BitSet) (edges : List Edge) (before : BehindSoFar g firsts null reach i old mid edges) where
     pub behind_rule : (new : List BitSet) (more : List Edge) → Has reach one.left → JoinsRows mid new (BeginsBehind firsts null one.right) → Gathers edges more (VanishBehind null one.left one.right)
         → BehindSoFar g firsts null reach (i + 1) old new more
