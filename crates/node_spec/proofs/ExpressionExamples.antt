@@ -15,7 +15,7 @@ use Rattle.node_spec.proofs.Glyphs.{same_rest}
 use Rattle.node_spec.proofs.OneWhole.{one_whole}
 use Rattle.node_spec.proofs.Starts.{bond, no_close, no_operator, no_prefix_first, stops_line}
 use Rattle.node_spec.proofs.ToWhole.{line_whole}
-use Rattle.node_spec.proofs.WholeParts.{loosest_at, no_if_parts, chain_at, goes_step}
+use Rattle.node_spec.proofs.WholeParts.{Chain, loosest_at, no_if_parts, chain_at, goes_step}
 
 at_7 : (n : ℕ) (rest : List Lexeme) → AtLevel 7 (lex.number n ∷ rest) (number n) rest
 at_7 n rest = a_number 7 n (lex.number n ∷ rest) rest refl refl
@@ -132,23 +132,27 @@ two_three = lex.number 2 ∷ sign (codes "<") ∷ lex.number 3 ∷ []
 abbrev one_two_three : List Lexeme
 one_two_three = lex.number 1 ∷ sign (codes "<") ∷ two_three
 
+-- what stands behind the first `<` is whole before the second one, where no comparison may go on
+no_third : (e : Spoken) (rest : List Lexeme) → Chain 3 one_two_three e rest → ⊥
+no_third e rest first =
+    let same = one_whole 4 one_two_three (sign (codes "<") ∷ two_three) first.between (number 1) first.left (whole_4 1 two_three) first.is in
+    let step = goes_step op.Less 3 first.left e first.between two_three rest refl (sym same.1) first.more in
+    let end = one_whole 4 two_three (sign (codes "<") ∷ lex.number 3 ∷ []) step.between (number 2) step.b (whole_4 2 (lex.number 3 ∷ [])) step.right in
+    step.single refl op.Less (lex.number 3 ∷ []) refl (sym end.1)
+
 pub not_chained : (e : Spoken) → IsSpoken one_two_three e [] → ⊥
 not_chained e is =
     let whole = line_whole one_two_three [] e is.at_level nothing_follows in
-    let second = chain_at 1 one_two_three [] e (omega arith) (omega arith)
+    let at_1 = chain_at 1 one_two_three [] e (omega arith) (omega arith)
         (no_if_parts one_two_three [] e (λ more at. cc) (loosest_at 0 one_two_three [] e refl whole)) in
-    let third = chain_at 2 one_two_three second.between second.left (omega arith) (omega arith) second.is in
-    let fourth = chain_at 3 one_two_three third.between third.left (omega arith) (omega arith) third.is in
-    let same = one_whole 4 one_two_three (sign (codes "<") ∷ two_three) fourth.between (number 1) fourth.left (whole_4 1 two_three) fourth.is in
-    let step = goes_step op.Less 3 fourth.left third.left fourth.between two_three third.between refl (sym same.1) fourth.more in
-    let same_right = one_whole 4 two_three (sign (codes "<") ∷ lex.number 3 ∷ []) step.between (number 2) step.b (whole_4 2 (lex.number 3 ∷ [])) step.right in
-    step.single refl op.Less (lex.number 3 ∷ []) refl (sym same_right.1)
+    let at_2 = chain_at 2 one_two_three at_1.between at_1.left (omega arith) (omega arith) at_1.is in
+    no_third at_2.left at_2.between (chain_at 3 one_two_three at_2.between at_2.left (omega arith) (omega arith) at_2.is)
 
 -- (1, 2) are arguments; (1,) are none
 abbrev close : List Lexeme
 close = sign (codes ")") ∷ []
 
-at_0 : (n : ℕ) (rest : List Lexeme) → AtLevel 0 (lex.number n ∷ rest) (number n) rest
+pub at_0 : (n : ℕ) (rest : List Lexeme) → AtLevel 0 (lex.number n ∷ rest) (number n) rest
 at_0 n rest = outermost (lex.number n ∷ rest) rest (number n) (at_4 n rest)
 
 pub two_arguments : Arguments (lex.number 1 ∷ sign (codes ",") ∷ lex.number 2 ∷ close)
