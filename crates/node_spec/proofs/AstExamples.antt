@@ -1,5 +1,5 @@
 -- What the lines of AST declare, tried where the nearest wrong reading differs.
-use Rattle.std.proofs.Common.{◌≡◌, ℕ, zero, suc, true, false, List, [], ◌∷◌, length, Contains, refl, sym, ap, ◌∙◌, arith, None, codes}
+use Rattle.std.proofs.Common.{◌≡◌, ℕ, zero, suc, true, false, List, [], ◌∷◌, length, Contains, refl, sym, ap, ◌∙◌, subst, arith, None, codes}
 use Rattle.cfg_model.specs.declared.named.NamedGrammar.{NamedGrammar}
 use Rattle.cfg_model.specs.declared.symbol.Sym.TheVariants.{T}
 use Rattle.expr_lang.specs.Expression.{var}
@@ -103,7 +103,7 @@ pub nothing_without_section : (g : NamedGrammar) (nodes : Nodes) → DeclaresNod
 nothing_without_section g nodes declares =
     let has = declares.section in
     let same = (one_order rex_end_file has.lines rex_end_lines has.parts rex_end_parts has.sections rex_end_sections).1 in
-    by has.part (rw (← same) has.among) has.is
+    by has.part (subst (λ ps. Contains ps has.part) same has.among) has.is
   where
     by : (part : Part) → Contains rex_end_parts part → part.section ≡ Ast → ⊥
     by part (zero, within, at) is = let other : Rex ≡ Ast = ap (λ p. p.section) at ∙ is in cc
@@ -114,4 +114,4 @@ pub behind_them : Grew (1 ∷ []) (1 ∷ 2 ∷ [])
 behind_them = (2 ∷ [], refl)
 
 pub not_before_them : Grew (1 ∷ []) (2 ∷ 1 ∷ []) → ⊥
-not_before_them (more, is) = let first : 2 ≡ 1 = cc in omega (arith, first)
+not_before_them (more, is) = let first : ◌≡◌ {A = ℕ} 2 1 = cc in omega (arith, first)

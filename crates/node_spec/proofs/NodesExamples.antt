@@ -41,8 +41,8 @@ table_with t = record {
 
 -- a type of the target side has no maker
 target_no_source : (t : ℕ) → IsSourceType (table_with (of_type 1 [])) t → ⊥
-target_no_source zero (within, has, source) = cc
-target_no_source (suc t) (within, has, source) = omega (arith, within)
+target_no_source zero (within, (has, source)) = cc
+target_no_source (suc t) (within, (has, source)) = omega (arith, within)
 
 pub no_makers : AreSourceMakers (table_with (of_type 1 [])) []
 no_makers = record {
@@ -87,7 +87,7 @@ child_of_own_side = record {
 
 pub child_of_other_side : HasFitItems (table_with (of_type 0 [])) (of_type 0 (ty.Node 1 ∷ [])) → ⊥
 child_of_other_side fit =
-    let first = All-head _ 1 [] fit.families in
+    let first = All-head (λ f. (f < 2) × ((family_at (table_with (of_type 0 [])).families f).target ≡ false)) 1 [] fit.families in
     let same : true ≡ false = first.1 in cc
 
 pub map_does_not_fit : HasFitItems (table_with (of_type 0 [])) (of_type 0 (ty.Map ∷ [])) → ⊥
