@@ -10,8 +10,8 @@ use Rattle.spec_text.specs.declared.section.Section.TheVariants.{Rex, Ast}
 use Rattle.spec_text.proofs.SectionExamples.{rex_end_file, rex_end_lines, rex_end_parts, rex_end_sections}
 use Rattle.spec_text.proofs.OneSections.{one_order}
 use Rattle.value_store.specs.declared.value.ValType.TheVariants as ty
-use Rattle.node_spec.specs.AstShapes.{AstSaying, AstShape, SaidItem, family, target, a_type, node, build, family_line, target_line, type_line, node_line, build_line, no_items}
-use Rattle.node_spec.specs.AstTables.{families_in, family_names, family_by, item_type, table_by}
+use Rattle.node_spec.specs.AstShapes.{AstSaying, AstShape, family, target, a_type, node, family_line, target_line, type_line, node_line, build_line, no_items}
+use Rattle.node_spec.specs.AstTables.{families_in, family_by, item_type, table_by}
 use Rattle.node_spec.specs.AstBuilds.{build_words, nodes_by}
 use Rattle.node_spec.specs.AstPromise.{DeclaresNodes, Grew}
 use Rattle.node_spec.specs.Nodes.{Nodes}

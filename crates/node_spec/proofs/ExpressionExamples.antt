@@ -1,5 +1,5 @@
 -- How expressions are written, tried where the nearest wrong reading differs.
-use Rattle.std.proofs.Common.{◌≡◌, ℕ, zero, suc, ◌+◌, ◌≤◌, List, [], ◌∷◌, length, Contains, true, false, refl, sym, ap, ◌∙◌, arith, codes}
+use Rattle.std.proofs.Common.{◌≡◌, ℕ, zero, suc, ◌+◌, List, [], ◌∷◌, length, Contains, true, false, refl, sym, ap, ◌∙◌, arith, codes}
 use Rattle.std.specs.List.{list_any}
 use Rattle.std.specs.Str.{bytes_eq}
 use Rattle.std.proofs.lemmas.List.Folds.{list_any_at}
@@ -144,7 +144,7 @@ pub not_chained : (e : Spoken) → IsSpoken one_two_three e [] → ⊥
 not_chained e is =
     let whole = line_whole one_two_three [] e is.at_level nothing_follows in
     let at_1 = chain_at 1 one_two_three [] e (omega arith) (omega arith)
-        (no_if_parts one_two_three [] e (λ more at. cc) (loosest_at 0 one_two_three [] e refl whole)) in
+    (no_if_parts one_two_three [] e (λ more at. cc) (loosest_at 0 one_two_three [] e refl whole)) in
     let at_2 = chain_at 2 one_two_three at_1.between at_1.left (omega arith) (omega arith) at_1.is in
     no_third at_2.left at_2.between (chain_at 3 one_two_three at_2.between at_2.left (omega arith) (omega arith) at_2.is)
 
@@ -212,5 +212,5 @@ nesting_of_64 = record { at_level = all_signs 63; few = let is = deep 63 in omeg
 pub nesting_of_65 : (e : Spoken) → IsSpoken (signs 64) e [] → ⊥
 nesting_of_65 e is =
     let same = (one_whole 0 (signs 64) [] [] (signed 64) e (line_whole (signs 64) [] (signed 64) (all_signs 64) nothing_follows)
-        (line_whole (signs 64) [] e is.at_level nothing_follows)).0 in
+    (line_whole (signs 64) [] e is.at_level nothing_follows)).0 in
     let much = ap nesting same in let is_65 = deep 64 in let few = is.few in omega (arith, much, is_65, few)

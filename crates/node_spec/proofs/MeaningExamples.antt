@@ -1,5 +1,5 @@
 -- What names stand for, tried on cases that are worked by hand.
-use Rattle.std.proofs.Common.{◌≡◌, ℕ, true, false, List, [], ◌∷◌, Some, None, codes, pos, refl, sym, subst}
+use Rattle.std.proofs.Common.{◌≡◌, true, false, [], ◌∷◌, Some, None, codes, pos, refl, sym, subst}
 use Rattle.std.specs.Fmt.{digits}
 use Rattle.std.proofs.lemmas.Option.{same_Some}
 use Rattle.expr_lang.specs.Expression.{no_expressions, and_expression}
@@ -12,7 +12,7 @@ use Rattle.spec_text.specs.Lexemes as lex
 use Rattle.spec_text.specs.Lexemes.{Form, a_number}
 use Rattle.value_store.specs.declared.value.ValType.{ValType}
 use Rattle.value_store.specs.declared.value.ValType.TheVariants as ty
-use Rattle.node_spec.specs.Resolving.{Vocabulary, Dotted, resolved, has_unknown, dollars_in, dollar_name, Means, MeansNothing}
+use Rattle.node_spec.specs.Resolving.{Vocabulary, resolved, has_unknown, dollars_in, dollar_name, Means, MeansNothing}
 use Rattle.node_spec.specs.Spoken.{number, truth, name, dollar, pair, binary, if_then, applied, no_spoken, and_spoken}
 
 -- variables `a`, `b` and `a`; makers `text`, `P` and `P`, of the types 4, 5 and 6; `a.b` is variable 7, and then 8

@@ -1,11 +1,11 @@
 -- What is declared as a value, and what fits, tried where the nearest wrong reading differs.
-use Rattle.std.proofs.Common.{◌≡◌, ℕ, zero, suc, ◌<◌, true, false, List, [], ◌∷◌, map, Contains, All, None, refl, sym, ap, ◌∙◌, arith, codes}
+use Rattle.std.proofs.Common.{◌≡◌, ℕ, zero, suc, ◌<◌, true, false, List, [], ◌∷◌, map, None, refl, sym, ap, ◌∙◌, arith, codes}
 use Rattle.std.specs.Borrow.{Bor}
 use Rattle.std.specs.Prelude.{get_or}
 use Rattle.std.proofs.lemmas.List.Elements.{All-head}
 use Rattle.value_store.specs.declared.value.ValType.{ValType}
 use Rattle.value_store.specs.declared.value.ValType.TheVariants as ty
-use Rattle.ast_types.specs.TypeTable.{NodeType, TypeTable, family_at, type_at}
+use Rattle.ast_types.specs.TypeTable.{NodeType, TypeTable, family_at}
 use Rattle.expr_lang.specs.Expression.{Expression, var}
 use Rattle.expr_lang.specs.Meaning.{meaning}
 use Rattle.expr_lang.specs.Typing.{IsPlain, a_var}
@@ -13,7 +13,7 @@ use Rattle.expr_lang.specs.declared.expr.Expr.{Expr}
 use Rattle.expr_lang.specs.declared.expr.Maker.{Maker}
 use Rattle.expr_lang.proofs.OneType.{one_type}
 use Rattle.cfg_model.specs.declared.symbol.Sym.TheVariants.{T, N}
-use Rattle.node_spec.specs.Nodes.{Nodes, nodes_of, IsSourceType, IsMakerOf, AreSourceMakers, build_context, Builds, HasFitItems}
+use Rattle.node_spec.specs.Nodes.{Nodes, nodes_of, IsSourceType, AreSourceMakers, build_context, Builds, HasFitItems}
 use Rattle.node_spec.specs.declared.nodes.NodeSpec.{NodeSpec}
 
 -- expressions of one meaning declare the same, wherever their strings lie

@@ -1,16 +1,15 @@
 -- Tried cases: what counts as a name or a value that is there twice.
-use Rattle.std.proofs.Common.{◌≡◌, ℕ, zero, suc, ◌+◌, true, false, List, [], ◌∷◌, length, Contains, Some, codes, refl, sym, ap, arith}
+use Rattle.std.proofs.Common.{◌≡◌, ℕ, zero, suc, ◌+◌, true, false, List, [], ◌∷◌, length, Some, codes, refl, sym, ap, arith}
 use Rattle.std.specs.Prelude.{slice_get}
 use Rattle.std.proofs.lemmas.Option.{same_Some}
 use Rattle.cfg_model.specs.Cfg.{Rule}
-use Rattle.cfg_model.specs.declared.symbol.Sym.{Sym}
 use Rattle.cfg_model.specs.declared.symbol.Sym.TheVariants.{T, N}
 use Rattle.ck_base.specs.declared.fault.Kind.TheVariants.{Twice}
 use Rattle.cfg_model.specs.declared.named.NamedGrammar.{NamedGrammar}
 use Rattle.spec_text.specs.Declares.{Declared}
 use Rattle.spec_text.proofs.Lists.{get_fits}
 use Rattle.node_spec.specs.AstShapes.{AstSaying, SaidItem, family, a_type, node, build}
-use Rattle.node_spec.specs.AstFaults.{AstFault, DeclaresName, IsRuleOf, IsTwice, named_again, second_node, second_build, reserved_name, reserved_item, item_twice, used_twice, of_family, of_type}
+use Rattle.node_spec.specs.AstFaults.{AstFault, IsTwice, named_again, second_node, second_build, reserved_name, reserved_item, item_twice, used_twice, of_family, of_type}
 use Rattle.node_spec.specs.Spoken.{Spoken, truth, dollar, if_then}
 use Rattle.node_spec.specs.within.AstTwice.{HasItemTwice, item_again}
 

@@ -1,9 +1,9 @@
 -- The definitions of kind type, and the faults at the line of the head, tried where the nearest wrong reading differs.
-use Rattle.std.proofs.Common.{◌≡◌, ℕ, zero, suc, true, false, List, [], ◌∷◌, length, Contains, Some, None, refl, sym, subst, arith, codes}
+use Rattle.std.proofs.Common.{◌≡◌, ℕ, zero, suc, false, List, [], ◌∷◌, Contains, Some, refl, sym, subst, arith, codes}
 use Rattle.std.specs.Fmt.{digits}
 use Rattle.std.proofs.lemmas.Option.{same_Some}
 use Rattle.value_store.specs.declared.value.ValType.TheVariants as ty
-use Rattle.expr_lang.specs.Expression.{Expression, var}
+use Rattle.expr_lang.specs.Expression.{var}
 use Rattle.expr_lang.specs.Typing.{a_var}
 use Rattle.expr_lang.proofs.OneType.{one_type}
 use Rattle.cfg_model.specs.Cfg.{Rule}
@@ -15,7 +15,6 @@ use Rattle.spec_text.specs.Declares.{Declared}
 use Rattle.node_spec.specs.Nodes.{Builds}
 use Rattle.node_spec.specs.Spoken.{dollar}
 use Rattle.node_spec.specs.AstShapes.{AstSaying, SaidItem, family, target, a_type, node, build}
-use Rattle.node_spec.specs.AstTables.{family_names}
 use Rattle.node_spec.specs.AstBuilds.{nodes_by}
 use Rattle.node_spec.specs.AstFaults.{AstFault, AstHeadFault, item_words, no_base, no_item_type, map_item, item_of_other_side, target_node, builds_no_node, no_node, no_build, other_family}
 use Rattle.node_spec.proofs.ExpressionExamples.{not_among}

@@ -5,11 +5,11 @@ use Rattle.expr_lang.specs.Typing.{Context}
 use Rattle.spec_text.specs.Lexemes as lex
 use Rattle.spec_text.specs.Lexemes.{Lexeme, word, sign, a_word}
 use Rattle.spec_text.specs.Reading.{Placed}
-use Rattle.spec_text.specs.Spans.{Spells, span_of}
+use Rattle.spec_text.specs.Spans.{Spells}
 use Rattle.spec_text.specs.declared.token.SpecToken.{SpecToken}
 use Rattle.spec_text.specs.declared.token.SpecSort.TheVariants.{Word}
 use Rattle.node_spec.specs.Spoken.{Spoken, number, applied, no_spoken}
-use Rattle.node_spec.specs.Notation.{AtLevel, IsSpoken, MayFollow, tighter, nothing_follows, closing, an_application, no_arguments, own_words, words_behind}
+use Rattle.node_spec.specs.Notation.{IsSpoken, tighter, nothing_follows, closing, an_application, no_arguments, own_words, words_behind}
 use Rattle.node_spec.specs.Resolving.{Vocabulary, has_unknown}
 use Rattle.node_spec.specs.Written.{AreTokensOf, StandsAt, IsFaultAt, unknown_name, no_meaning}
 use Rattle.node_spec.proofs.ExpressionExamples.{at_0, not_among, no_operator_follows}
