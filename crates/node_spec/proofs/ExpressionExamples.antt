@@ -75,7 +75,7 @@ call_alone = refl
 pub call_is_deeper : nesting (applied (codes "f") (and_spoken (number 1) (and_spoken (grouped (number 2)) no_spoken))) ≡ 3
 call_is_deeper = refl
 
--- a name that no test finds isn't among these
+-- a name that equals none of these isn't among them
 pub not_among : (names : List (List ℕ)) (name : List ℕ) → list_any (bytes_eq name) names ≡ false → Contains names name → ⊥
 not_among names name none (i, within, at) =
     let some = list_any_at (bytes_eq name) names i name within ((bytes_eq-Decides name _).1 (sym at)) in
@@ -114,7 +114,7 @@ pub no_number_follows : (n : ℕ) (rest : List Lexeme) → MayFollow (lex.number
 no_number_follows n rest follows =
     other_token (lex.number n ∷ rest) (lex.number n) rest refl (λ w is. cc) (λ is. cc) (λ is. cc) (λ is. cc) follows
 
--- 1 < 2 < 3 is no expression
+-- a number before `<` is whole as a sum, since `<` binds less
 whole_4 : (n : ℕ) (rest : List Lexeme) → Whole 4 (lex.number n ∷ sign (codes "<") ∷ rest) (number n) (sign (codes "<") ∷ rest)
 whole_4 n rest =
     let end : List Lexeme = sign (codes "<") ∷ rest in
@@ -140,6 +140,7 @@ no_third e rest first =
     let end = one_whole 4 two_three (sign (codes "<") ∷ lex.number 3 ∷ []) step.between (number 2) step.b (whole_4 2 (lex.number 3 ∷ [])) step.right in
     step.single refl op.Less (lex.number 3 ∷ []) refl (sym end.1)
 
+-- 1 < 2 < 3 is no expression
 pub not_chained : (e : Spoken) → IsSpoken one_two_three e [] → ⊥
 not_chained e is =
     let whole = line_whole one_two_three [] e is.at_level nothing_follows in
