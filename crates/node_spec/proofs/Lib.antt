@@ -1,3 +1,4 @@
+mod AstExamples
 mod AstFamilies
 mod AstGathered
 mod AstHead
@@ -41,6 +42,7 @@ mod LineReadings
 mod MeaningExamples
 mod MeantParts
 mod Nesting
+mod NodesExamples
 pub mod OneAst
 mod OneAstSaying
 pub mod OneSpoken
@@ -54,5 +56,7 @@ mod Sayings
 mod Starts
 mod ToWhole
 mod TwiceExamples
+mod TypingExamples
 mod UnknownExamples
 mod WholeParts
+mod WrittenExamples
