@@ -16,5 +16,7 @@ mod PrintedLine
 mod RefusedSpec
 mod RexStep
 mod ScannedRules
+mod SourceExamples
+mod ToolExamples
 mod Treed
 mod Walk

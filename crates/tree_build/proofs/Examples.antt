@@ -1,14 +1,32 @@
 -- The definitions, tried on cases where a wrong reading would differ.
-use Rattle.std.proofs.Common.{◌≡◌, ℕ, pos, [], ◌∷◌, refl}
+use Rattle.std.proofs.Common.{◌≡◌, ℕ, zero, suc, ◌<◌, ◌≤◌, pos, true, false, List, [], ◌∷◌, None, Ok, Err, codes, refl, sym, ◌∙◌, arith}
+use Rattle.value_store.specs.MadeTrees.{MadeTree, MadeTrees, made, no_trees, and_trees, type_of}
+use Rattle.value_store.specs.declared.value.ValType.{ValType}
+use Rattle.value_store.specs.declared.value.ValType.TheVariants as ty
+use Rattle.value_store.specs.declared.value.Value.{Value}
+use Rattle.value_store.specs.declared.value.Value.TheVariants as value
+use Rattle.ast_types.specs.Items.{child_families}
+use Rattle.ast_types.specs.TypeTable.{TypeTable, type_at}
+use Rattle.ast_types.specs.declared.item.Item.{Item}
 use Rattle.expr_lang.specs.declared.expr.Function.TheVariants as function
 use Rattle.expr_lang.specs.Expression.{Expression, var, call, make, no_expressions, and_expression}
 use Rattle.expr_lang.specs.PureValues.{PureValue, PureValues, text, int, no_pure, and_pure}
 use Rattle.expr_lang.specs.PureValues as pure
 use Rattle.expr_lang.specs.ValueOf.{Tokens}
+use Rattle.cfg_model.specs.Cfg.{Cfg}
 use Rattle.cfg_model.specs.Derivation.{Forest, empty, leaf, node}
+use Rattle.cfg_model.specs.Derivation as derivation
+use Rattle.cfg_model.specs.declared.symbol.Sym.TheVariants.{T}
+use Rattle.parse_driver.specs.declared.step.Step.TheVariants as act
+use Rattle.parse_driver.specs.declared.tokens.TokenRef.{TokenRef}
 use Rattle.node_spec.specs.Nodes.{Nodes}
-use Rattle.tree_build.specs.Built.{built, built_value}
-use Rattle.tree_build.specs.Shown.{pure_count}
+use Rattle.tree_store.specs.Conforms.{IsOfKind, is_int, is_bool, is_text}
+use Rattle.tree_store.specs.Forest.{Node, node_at, children_at, IsChild}
+use Rattle.tree_build.specs.Built.{built, built_value, tokens_in_source, IsReading, LiesInSource, IsBuilt}
+use Rattle.tree_build.specs.Fitting.{as_field, TreeFits, tree_fits, TreesFit, no_tree_fits, and_tree_fits, FieldsFit, no_field_fits, and_field_fits, HasFewItems}
+use Rattle.tree_build.specs.Shown.{pure_count, Show, none_shown, and_shown, IsTreeOf}
+use Rattle.tree_build.specs.declared.error.BuildError.TheVariants as error
+use Rattle.tree_build.proofs.TokensListed.{shifted_yield}
 
 -- rule 1 makes a node of type 5 with its second symbol as child and the text of its third one as field; rule 2 makes a node of
 -- type 6 with the line of its symbol
@@ -43,3 +61,161 @@ from_one = refl
 -- a field is no node
 two_nodes : pure_count (built_value both xyz tree) ≡ 2
 two_nodes = refl
+
+-- the token `a`, line feed, `b`, and behind a blank the token `c`: each has the line and column where it begins
+where_they_begin : tokens_in_source (97 ∷ 10 ∷ codes "b c") (record { terminal = 0; from = 0; to = 3 } ∷ record { terminal = 1; from = 4; to = 5 } ∷ [])
+    ≡ record { texts = (97 ∷ 10 ∷ codes "b") ∷ codes "c" ∷ []; places = (1, 1) ∷ (2, 3) ∷ [] }
+where_they_begin = refl
+
+-- the grammar `S = X`
+abbrev s_is_x : Cfg
+s_is_x = record { terminals = 1; nonterminals = 1; start = 0; rules = record { left = 0; right = T 0 ∷ [] } ∷ [] }
+
+-- a token shifted and its rule reduced are a reading of that token
+reads_it : (t : TokenRef) → t.terminal ≡ 0 → IsReading s_is_x (act.Shift t ∷ act.Reduce 1 ∷ []) (t ∷ []) (node 1 (leaf t empty) empty)
+reads_it t is = record {
+  derivation = record {
+    from_start = derivation.rule 1 0 (T 0 ∷ []) [] (leaf t empty) empty (record { place = 0; from_one = refl; read = refl })
+        (derivation.token 0 t [] empty is derivation.nothing) derivation.nothing;
+    yields = refl;
+  };
+  in_postorder = refl;
+}
+
+-- and of no other one
+reads_no_other : (g : Cfg) (t u : TokenRef) (f : Forest TokenRef) → IsReading g (act.Shift t ∷ act.Reduce 1 ∷ []) (u ∷ []) f → t ≡ u
+reads_no_other g t u f is =
+    let shifted = shifted_yield (act.Shift t ∷ act.Reduce 1 ∷ []) f is.in_postorder in
+    let same : t ∷ [] ≡ u ∷ [] = shifted ∙ sym is.derivation.yields in
+    cc
+
+-- a token lies in a source up to the source's very last byte, and not past it
+last_byte : LiesInSource (codes "ab") (act.Shift (record { terminal = 0; from = 1; to = 2 }))
+last_byte = (omega arith, omega arith)
+
+past_the_end : LiesInSource (codes "ab") (act.Shift (record { terminal = 0; from = 1; to = 3 })) → ⊥
+past_the_end lies = let within : 3 ≤ 2 = lies.1 in omega (arith, within)
+
+module _ (s l : List ℕ) (nodes : Nodes) (v : PureValue) where
+  -- 1,048,576 nodes aren't too many, and one more is
+  fits_at_the_limit : pure_count v ≡ 1048576 → IsBuilt s l nodes v (Err error.TooLarge) → ⊥
+  fits_at_the_limit is too_large = let more : 1048576 < pure_count v = too_large in omega (arith, is, more)
+
+  one_node_more : pure_count v ≡ 1048577 → IsBuilt s l nodes v (Err error.TooLarge)
+  one_node_more is = omega (arith, is)
+
+  no_tree_then : (tree : List Node) → pure_count v ≡ 1048577 → IsBuilt s l nodes v (Ok tree) → ⊥
+  no_tree_then tree is tree_is = let few : pure_count v ≤ 1048576 = tree_is.1 in omega (arith, is, few)
+
+-- a node of type 0 over one of type 1 and one of type 2
+abbrev over_two : PureValue
+over_two = pure.node 0 (and_pure (pure.node 1 no_pure no_pure) (and_pure (pure.node 2 no_pure no_pure) no_pure)) no_pure
+
+abbrev without_fields : ℕ → List ℕ → Node
+without_fields t children = record { ty = t; children = children; fields = [] }
+
+-- the root, the last one, with these children
+abbrev three : List ℕ → List Node
+three children = without_fields 1 [] ∷ without_fields 2 [] ∷ without_fields 0 children ∷ []
+
+in_order : Show [] [] (three (0 ∷ 1 ∷ [])) (2 ∷ []) (and_pure over_two no_pure)
+in_order = and_shown 2 [] 0 _ _ _ (omega arith) refl
+    (and_shown 0 (1 ∷ []) 1 _ _ _ (omega arith) refl none_shown refl
+    (and_shown 1 [] 2 _ _ _ (omega arith) refl none_shown refl none_shown))
+    refl none_shown
+
+-- the children in the other order show another value
+other_order : Show [] [] (three (1 ∷ 0 ∷ [])) (2 ∷ []) (and_pure over_two no_pure) → ⊥
+other_order shows =
+    let is : 2 ≡ 1 = first_type (three (1 ∷ 0 ∷ [])) 1 (0 ∷ []) 1 no_pure no_pure _ (first_children (three (1 ∷ 0 ∷ [])) 2 [] 0 _ no_pure no_pure shows) in
+    omega (arith, is)
+  where
+    first_type : (nodes : List Node) (n : ℕ) (ns : List ℕ) (t : ℕ) (children fields more : PureValues)
+        → Show [] [] nodes (n ∷ ns) (and_pure (pure.node t children fields) more) → (node_at nodes n).ty ≡ t
+    first_type nodes _ _ _ _ _ _ (and_shown n ns t children fields more within is below are rest) = is
+
+    first_children : (nodes : List Node) (n : ℕ) (ns : List ℕ) (t : ℕ) (children fields more : PureValues)
+        → Show [] [] nodes (n ∷ ns) (and_pure (pure.node t children fields) more) → Show [] [] nodes (children_at nodes n) children
+    first_children nodes _ _ _ _ _ _ (and_shown n ns t children fields more within is below are rest) = below
+
+-- two nodes side by side are no tree, whatever they show
+side_by_side : (types : TypeTable) (v : PureValue) → IsTreeOf [] [] types (without_fields 1 [] ∷ without_fields 1 [] ∷ []) v → ⊥
+side_by_side types v is =
+    let first = is.only.only 0 (record { within = omega arith; no_child = childless 0 }) in
+    let second = is.only.only 1 (record { within = omega arith; no_child = childless 1 }) in
+    omega (arith, first, second)
+  where
+    childless : (c p i : ℕ) → IsChild (without_fields 1 [] ∷ without_fields 1 [] ∷ []) p i c → ⊥
+    childless c zero i is = cc
+    childless c (suc zero) i is = cc
+    childless c (suc (suc p)) i is = cc
+
+-- two families; of the first one `Leaf` without items and `Up (c: F, n: int)`, of the second one `Other`
+abbrev two_families : TypeTable
+two_families = record {
+  families = record { name = codes "F"; target = false } ∷ record { name = codes "G"; target = false } ∷ [];
+  types =
+      record { name = codes "Leaf"; family = 0; base = None; items = [] }
+      ∷ record {
+        name = codes "Up";
+        family = 0;
+        base = None;
+        items = record { name = codes "c"; of = ty.Node 0 } ∷ record { name = codes "n"; of = ty.Int } ∷ [];
+      }
+      ∷ record { name = codes "Other"; family = 1; base = None; items = [] }
+      ∷ [];
+}
+
+abbrev up : MadeTree → MadeTree
+up child = made 1 (and_trees child no_trees) (value.Int (pos 7) ∷ [])
+
+-- a child may be of each type of its family
+up_fits : (child : MadeTree) → (type_at two_families.types (type_of child)).family ≡ 0 → TreeFits two_families child
+    → TreeFits two_families (up child)
+up_fits child family fits = tree_fits 1 _ _ (omega arith) (and_tree_fits child no_trees 0 [] family fits no_tree_fits)
+    (and_field_fits (value.Int (pos 7)) [] ty.Int [] (is_int (pos 7)) no_field_fits)
+
+both_types : TreeFits two_families (up (up (made 0 no_trees [])))
+both_types = up_fits _ refl (up_fits _ refl (tree_fits 0 no_trees [] (omega arith) no_tree_fits no_field_fits))
+
+-- and of no other family
+other_family : TreeFits two_families (up (made 2 no_trees [])) → ⊥
+other_family fits = let is : 1 ≡ 0 = family_of_first two_families _ _ 0 [] (children_fit two_families 1 _ _ fits) in omega (arith, is)
+  where
+    children_fit : (table : TypeTable) (t : ℕ) (children : MadeTrees) (fields : List Value) → TreeFits table (made t children fields)
+        → TreesFit table children (child_families (type_at table.types t).items)
+    children_fit table _ _ _ (tree_fits t children fields within fit fields_fit) = fit
+
+    family_of_first : (table : TypeTable) (t : MadeTree) (ts : MadeTrees) (f : ℕ) (fs : List ℕ) → TreesFit table (and_trees t ts) (f ∷ fs)
+        → (type_at table.types (type_of t)).family ≡ f
+    family_of_first table _ _ _ _ (and_tree_fits t ts f fs family fits fit) = family
+
+-- a bool is no int
+bool_for_int : FieldsFit (value.Bool true ∷ []) (ty.Int ∷ []) → ⊥
+bool_for_int fit = no_int _ _ (kind_of_first _ _ _ _ fit) refl refl
+  where
+    kind_of_first : (v : Value) (vs : List Value) (kind : ValType) (kinds : List ValType) → FieldsFit (v ∷ vs) (kind ∷ kinds)
+        → IsOfKind (as_field v) kind
+    kind_of_first _ _ _ _ (and_field_fits v vs kind kinds fits fit) = fits
+
+    no_int : (v : Value) (kind : ValType) → IsOfKind v kind → v ≡ value.Bool true → kind ≡ ty.Int → ⊥
+    no_int _ _ (is_int z) is is_kind = cc
+    no_int _ _ (is_bool b) is is_kind = cc
+    no_int _ _ (is_text t) is is_kind = cc
+
+-- eight children aren't too many, and nine are
+abbrev child_item : Item
+child_item = record { name = codes "c"; of = ty.Node 0 }
+
+abbrev eight : List Item
+eight = child_item ∷ child_item ∷ child_item ∷ child_item ∷ child_item ∷ child_item ∷ child_item ∷ child_item ∷ []
+
+abbrev with_items : List Item → TypeTable
+with_items items = record { families = []; types = record { name = []; family = 0; base = None; items = items } ∷ [] }
+
+eight_are_few : HasFewItems (with_items eight)
+eight_are_few zero within = (omega arith, omega arith)
+eight_are_few (suc t) within = let first : suc t < 1 = within in absurd (omega (arith, first))
+
+nine_are_not : HasFewItems (with_items (child_item ∷ eight)) → ⊥
+nine_are_not few = let children : 9 ≤ 8 = (few 0 (omega arith)).0 in omega (arith, children)
