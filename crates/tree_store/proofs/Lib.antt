@@ -6,6 +6,7 @@ pub mod LinksAgree
 pub mod NextInPostorder
 pub mod NextInPreorder
 pub mod NodeAdded
+pub mod SomeOrder
 pub mod StaysConforming
 pub mod TreeGrown
 pub mod WalkSteps
