@@ -1,10 +1,10 @@
 -- Items, bases and what a type is, each tried on a case where the nearest wrong reading differs.
-use Rattle.std.proofs.Common.{◌≡◌, List, [], ◌∷◌, Some, None, refl, arith}
+use Rattle.std.proofs.Common.{◌≡◌, ℕ, zero, suc, ◌<◌, ◌⊎◌, inl, inr, List, [], ◌∷◌, length, false, Some, None, refl, sym, ap, arith}
 use Rattle.std.specs.Prelude.{codes}
 use Rattle.value_store.specs.declared.value.ValType.TheVariants as ty
 use Rattle.ast_types.specs.Items.{child_families, field_types}
-use Rattle.ast_types.specs.TypeTable.{NodeType, IsA, itself, extends, base_items, BaseFits}
-use Rattle.ast_types.proofs.Climbing.{climb, at_top}
+use Rattle.ast_types.specs.TypeTable.{Family, NodeType, TypeTable, type_at, IsA, itself, extends, base_items, BaseFits, IsSound}
+use Rattle.ast_types.proofs.Climbing.{climb, at_top, same_Some}
 use Rattle.ast_types.specs.declared.item.Item.{Item}
 
 abbrev pub left : Item
@@ -58,3 +58,58 @@ brothers_are_not is = at_top types 0 3 refl (λ e. omega (arith, e)) (climb type
 -- a base of another family doesn't fit
 other_family : BaseFits types 1 (Some 0) → ⊥
 other_family fits = omega (arith, fits.1)
+
+-- these types are a sound table, over one family
+abbrev pub families : List Family
+families = record { name = codes "Any"; target = false } ∷ []
+
+abbrev pub table : List NodeType → TypeTable
+table list = record { families = families; types = list }
+
+sound : IsSound (table types)
+sound = record {
+  base_before = λ t b is. elim (bases t b is) [ inl e ↦ omega (arith, e.0, e.1) | inr e ↦ omega (arith, e.0, e.1) ];
+  base_family = λ t b is. elim (bases t b is) [ inl e ↦ rw (e.0, e.1) refl | inr e ↦ rw (e.0, e.1) refl ];
+  base_first = λ t b is. elim (bases t b is) [ inl e ↦ rw (e.0, e.1) (right ∷ [], refl) | inr e ↦ rw (e.0, e.1) (sign ∷ [], refl) ];
+  family_there = there;
+}
+  where
+    -- type 0 is the base of type 1, type 1 that of type 2, and no other type has one
+    bases : (t b : ℕ) → (type_at types t).base ≡ Some b → ((t ≡ 1) × (b ≡ 0)) ⊎ ((t ≡ 2) × (b ≡ 1))
+    bases zero b is = (cc)
+    bases (suc zero) b is = inl (refl, sym (same_Some is))
+    bases (suc (suc zero)) b is = inr (refl, sym (same_Some is))
+    bases (suc (suc (suc zero))) b is = (cc)
+    bases (suc (suc (suc (suc t)))) b is = (cc)
+
+    there : (t : ℕ) → t < length types → (type_at types t).family < 1
+    there zero within = omega arith
+    there (suc zero) within = omega arith
+    there (suc (suc zero)) within = omega arith
+    there (suc (suc (suc zero))) within = omega arith
+    there (suc (suc (suc (suc t)))) within = absurd (omega (arith, within))
+
+-- in a sound table no base comes later
+base_later : IsSound (table (
+    (record { name = codes "Both"; family = 0; base = Some 1; items = left ∷ right ∷ [] })
+    ∷ (record { name = codes "Any"; family = 0; base = None; items = left ∷ [] })
+    ∷ [])) → ⊥
+base_later is = omega (arith, is.base_before 0 1 refl)
+
+-- and the items of a base aren't behind the own ones
+own_first : IsSound (table (
+    (record { name = codes "Any"; family = 0; base = None; items = left ∷ [] })
+    ∷ (record { name = codes "Both"; family = 0; base = Some 0; items = right ∷ left ∷ [] })
+    ∷ [])) → ⊥
+own_first is = let e = ap child_families (is.base_first 1 0 refl).1 in cc
+
+-- a type is of its base's family
+other_than_the_base : IsSound (table (
+    (record { name = codes "Any"; family = 0; base = None; items = [] })
+    ∷ (record { name = codes "Both"; family = 1; base = Some 0; items = [] })
+    ∷ [])) → ⊥
+other_than_the_base is = omega (arith, is.base_family 1 0 refl)
+
+-- each family is there
+no_such_family : IsSound (table (record { name = codes "Any"; family = 1; base = None; items = [] } ∷ [])) → ⊥
+no_such_family is = omega (arith, is.family_there 0 (omega arith))

@@ -1,5 +1,6 @@
 pub mod Applies
 pub mod Evaluates
+mod MeaningExamples
 pub mod Meanings
 pub mod OneType
 pub mod PlainParts

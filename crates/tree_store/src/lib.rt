@@ -12,10 +12,13 @@
 //! | a conforming tree stays so; the last node is a root | `proofs/StaysConforming.antt`, `proofs/LastIsRoot.antt` |
 //! | a step of a walk, and why it ends | `proofs/WalkSteps.antt`, `proofs/LinksAgree.antt`, `proofs/CallsToCome.antt` |
 //! | the next node in each order | `proofs/NextInPreorder.antt`, `proofs/NextInPostorder.antt` |
+//! | law: there is one preorder and one postorder | `src/laws.rt`; `proofs/SomeOrder.antt` |
 #![tactic(auto)]
 
+mod laws;
 mod tree;
 mod visit;
 
+pub use laws::one_order;
 pub use tree::{AddError, Tree};
 pub use visit::Visit;

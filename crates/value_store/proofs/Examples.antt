@@ -1,10 +1,10 @@
 -- Texts, maps and made nodes, each tried on a case where the nearest wrong reading differs.
-use Rattle.std.proofs.Common.{◌≡◌, ℕ, List, [], ◌∷◌, Some, None, refl, pos}
-use Rattle.std.specs.Prelude.{codes, length}
+use Rattle.std.proofs.Common.{◌≡◌, ℕ, List, [], ◌∷◌, ◌++◌, Some, None, map, refl, ap, arith, pos}
+use Rattle.std.specs.Prelude.{codes, length, slice_get}
 use Rattle.value_store.specs.Texts.{text_of}
-use Rattle.value_store.specs.Maps.{entries, first_with}
+use Rattle.value_store.specs.Maps.{Pair, entries, first_with}
 use Rattle.value_store.specs.MadeTrees.{made, no_trees, and_trees, node_count, child_at, children_of}
-use Rattle.value_store.specs.Cells.{cells_of, pairs_at, tree_at}
+use Rattle.value_store.specs.Cells.{Cell, cells_of, pairs_at, tree_at, PutsPair, MakesNode}
 use Rattle.value_store.specs.declared.text.Text.{Text}
 use Rattle.value_store.specs.declared.text.TextOf.TheVariants.{Source, Literal}
 use Rattle.value_store.specs.declared.unit.StoreUnit.{StoreUnit}
@@ -92,3 +92,46 @@ counted_at_both = refl
 -- children are numbered from 0, and there is none past the last
 no_third_child : child_at (children_of (tree_at (cells_of nodes) 5)) 2 ≡ None
 no_third_child = refl
+
+-- `ab` = 5 is put before the map of cell 1: the next cell is the new map, and all cells of before stay
+abbrev pub five : Pair
+five = record { key = last_ab; number = pos 5 }
+
+abbrev pub five_unit : StoreUnit
+five_unit = unit.Entry (record { older = 1; key = last_ab; number = pos 5; size = 2 })
+
+put_behind : PutsPair (cells_of maps) (cells_of (maps ++ five_unit ∷ [])) 1 five 5
+put_behind = record { next = refl; extends = refl }
+
+-- the answer isn't the cell of the older map
+put_in_place : (new : List Cell) → PutsPair (cells_of maps) new 1 five 1 → ⊥
+put_in_place new puts = omega (arith, puts.next)
+
+-- and no older cell changes, as the pair of cell 4 does here
+abbrev pub maps_changed : List StoreUnit
+maps_changed =
+    unit.Entry (record { older = 0; key = first_ab; number = pos 1; size = 1 })
+    ∷ unit.Entry (record { older = 1; key = bc; number = pos 2; size = 2 })
+    ∷ unit.Entry (record { older = 2; key = last_ab; number = pos 3; size = 3 })
+    ∷ unit.Entry (record { older = 1; key = bc; number = pos 9; size = 2 })
+    ∷ []
+
+older_changed : PutsPair (cells_of maps) (cells_of (maps_changed ++ five_unit ∷ [])) 1 five 5 → ⊥
+older_changed puts =
+    let e : pos 9 ∷ pos 1 ∷ [] ≡ pos 4 ∷ pos 1 ∷ [] = ap (λ cells. map (λ pair. pair.number) (pairs_at cells 4)) puts.extends in cc
+
+-- a node of cell 5 and the int 2: its child, its field and the node are the next cells, in this order
+abbrev pub node_unit : StoreUnit
+node_unit = unit.Node (record { ty = 9; children = 1; fields = 1; nodes = 4 })
+
+made_behind : MakesNode (cells_of nodes) (cells_of (nodes ++ unit.Part (value.Made 5) ∷ unit.Part (value.Int (pos 2)) ∷ node_unit ∷ [])) 9
+    (5 ∷ []) (value.Int (pos 2) ∷ []) 8
+made_behind = record { next = refl; extends = refl; is = refl }
+
+-- the answer isn't the first of the new cells, and the field doesn't stand before the child
+made_in_front : (new : List Cell) → MakesNode (cells_of nodes) new 9 (5 ∷ []) (value.Int (pos 2) ∷ []) 6 → ⊥
+made_in_front new made_it = omega (arith, made_it.next)
+
+field_in_front : MakesNode (cells_of nodes) (cells_of (nodes ++ unit.Part (value.Int (pos 2)) ∷ unit.Part (value.Made 5) ∷ node_unit ∷ [])) 9
+    (5 ∷ []) (value.Int (pos 2) ∷ []) 8 → ⊥
+field_in_front made_it = let e = ap (λ cells. slice_get cells 6) made_it.extends in cc
