@@ -16,7 +16,6 @@ same_symbol : (x y : Sym) (m k : ℕ) → ◌≡◌ {A = Option (Sym × ℕ)} (S
 same_symbol x y m k e = ap (λ (z : Sym × ℕ). z.0) (same_Some (x, m) (y, k) e)
 
 module _ (moves : List (Sym × ℕ)) where
-
   among_more : (i : ℕ) (x : Sym) (m : ℕ) → AmongFirst moves i x m → AmongFirst moves (i + 1) x m
   among_more i x m (j, low, is) = (j, omega (arith, low), is)
 

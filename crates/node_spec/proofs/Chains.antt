@@ -91,13 +91,11 @@ chain_end p left tokens rest e deep so none = record { is = so.on e rest (ends p
 
 -- prefixes
 module _ (left : ℕ) (tokens : List Lexeme) (none : NoPrefix tokens) where
-
   pub plain_read : (rest : List Lexeme) (e : Spoken) (deep : ℕ) → IsRead (Whole 7) left tokens e deep rest → IsRead (Whole 6) left tokens e deep rest
   plain_read rest e deep read =
       record { is = prefixed 6 tokens rest e refl (no_prefix tokens rest e none read.is); deep_is = read.deep_is; within = read.within }
 
 module _ (left : ℕ) (s : Prefix) (tokens after : List Lexeme) (first : tokens ≡ sign (prefix_glyph s) ∷ after) (some : 0 < left) where
-
   pub prefix_read : (rest : List Lexeme) (a : Spoken) (deep : ℕ) → IsRead (Whole 6) (left - 1) after a deep rest → (e : Spoken) → e ≡ with_prefix s a → (most : ℕ) → most ≡ deep + 1
       → IsRead (Whole 6) left tokens e most rest
   prefix_read rest a deep read e is_e most is_most =

@@ -12,13 +12,11 @@ use Rattle.node_spec.proofs.FromWhole.{from_whole}
 
 -- an expression of the loosest level begins with `if`, or not
 module _ (left : ℕ) (tokens : List Lexeme) (none : NotFirst (word (codes "if")) tokens) where
-
   pub other_read : (rest : List Lexeme) (e : Spoken) (deep : ℕ) → IsRead (Whole 1) left tokens e deep rest → IsRead (Whole 0) left tokens e deep rest
   other_read rest e deep read =
       record { is = loosest 0 tokens rest e refl (no_conditional tokens rest e none read.is); deep_is = read.deep_is; within = read.within }
 
 module _ (left : ℕ) (tokens after : List Lexeme) (first : Fixed (word (codes "if")) tokens after) where
-
   pub behind_if_read : (rest : List Lexeme) (e : Spoken) (deep : ℕ) → IsRead Conditional left after e deep rest → IsRead (Whole 0) left tokens e deep rest
   behind_if_read rest e deep read =
       let its = read.is in
@@ -39,7 +37,6 @@ parts : (after rest : List Lexeme) (e : Spoken) → Conditional after e rest →
 parts after rest e is = if_parts (word (codes "if") ∷ after) after rest e refl is
 
 module _ (left : ℕ) (after : List Lexeme) where
-
   module _ (c : Spoken) (deep_c : ℕ) (end : List Lexeme) (test : IsRead (Whole 0) (left - 1) after c deep_c end) where
     pub no_then : ((rest : List Lexeme) → Fixed (word (codes "then")) end rest → ⊥) → NoneRead Conditional left after
     no_then none e rest is few =

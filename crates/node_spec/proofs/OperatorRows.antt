@@ -17,7 +17,6 @@ nothing_inside left tokens rest args close are some =
     record { are = rw are (none_inside tokens rest close); deep_is = rw are refl; within = some }
 
 module _ (left : ℕ) (tokens : List Lexeme) (none : (rest : List Lexeme) → Fixed (sign (codes ")")) tokens rest → ⊥) where
-
   pub inside_read : (rest : List Lexeme) (args : SpokenList) (deep : ℕ) → AreRead Row left tokens args deep rest → AreRead Inside left tokens args deep rest
   inside_read rest args deep read = record { are = some_inside tokens rest args none read.are; deep_is = read.deep_is; within = read.within }
 
@@ -58,7 +57,6 @@ pub record RowSoFar (left : ℕ) (tokens rest : List Lexeme) (es : List Spoken) 
   pub within : deep < left
 
 module _ (left : ℕ) (tokens : List Lexeme) (some : 0 < left) where
-
   pub row_first : (rest : List Lexeme) (e : Spoken) (deep : ℕ) → IsRead (Whole 0) (left - 1) tokens e deep rest → RowSoFar left tokens rest (e ∷ []) deep
   row_first rest e deep read =
       let deep_is = read.deep_is in

@@ -14,13 +14,11 @@ leaf_read left tokens rest e is flat some =
 
 -- in parentheses
 module _ (left : ℕ) (tokens after : List Lexeme) (first : Fixed (sign (codes "(")) tokens after) where
-
   pub group_read : (rest : List Lexeme) (e : Spoken) (deep : ℕ) → IsRead Grouping left after e deep rest → IsRead (Whole 7) left tokens e deep rest
   group_read rest e deep read =
       let its = read.is in record { is = primary 7 tokens rest e refl (rw first its); deep_is = read.deep_is; within = read.within }
 
 module _ (left : ℕ) (tokens : List Lexeme) where
-
   module _ (end : List Lexeme) (a : Spoken) (deep : ℕ) (read : IsRead (Whole 0) (left - 1) tokens a deep end) where
     pub no_close : ((rest : List Lexeme) → Fixed (sign (codes ")")) end rest → ⊥) → NoneRead Grouping left tokens
     no_close none e rest is few =
@@ -50,7 +48,6 @@ module _ (left : ℕ) (w : List ℕ) (tokens behind : List Lexeme) (first : Name
       record { is = primary 7 tokens rest e refl (named w tokens behind rest e ok first read.is); deep_is = read.deep_is; within = read.within }
 
 module _ (left : ℕ) (w : List ℕ) (behind after : List Lexeme) (first : Fixed (sign (codes "(")) behind after) where
-
   pub call_read : (rest : List Lexeme) (args : SpokenList) (deep : ℕ) → AreRead Inside left after args deep rest → (e : Spoken) → e ≡ applied w args → (most : ℕ) → most ≡ deep + 1
       → IsRead (Named w) left behind e most rest
   call_read rest args deep read e is_e most is_most =

@@ -28,7 +28,12 @@ const SPANS: [Text; 2] = [
 const PLACES: [(u32, u32); 2] = [(1, 1), (3, 9)];
 
 /// The types of the variables: the two tokens, the int 5, and the map of no pairs.
-pub(crate) const VARIABLES: [ValType; 4] = [ValType::Token, ValType::Token, ValType::Int, ValType::Map];
+pub(crate) const VARIABLES: [ValType; 4] = [
+    ValType::Token,
+    ValType::Token,
+    ValType::Int,
+    ValType::Map,
+];
 
 /// Writes the value of each expression, by a store and, where it needs none, from the syntax alone.
 pub(crate) fn show_values(alloc: Global, all: &[&str], out: &mut String) -> Result<(), NoMemory> {
@@ -56,7 +61,11 @@ fn value_line(alloc: Global, words: &str) -> Result<String, NoMemory> {
 }
 
 /// The value over a store, where the expression has a type.
-pub(crate) fn stored_value(alloc: Global, e: &Expr<'_>, texts: &Texts<'_>) -> Result<String, NoMemory> {
+pub(crate) fn stored_value(
+    alloc: Global,
+    e: &Expr<'_>,
+    texts: &Texts<'_>,
+) -> Result<String, NoMemory> {
     let mut cells = Cells::new(alloc);
     let env = [
         Value::Token(0),
