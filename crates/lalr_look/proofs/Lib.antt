@@ -7,6 +7,7 @@ pub mod Growth
 pub mod Holes
 pub mod Items
 pub mod Joined
+pub mod LongRule
 pub mod Looking
 pub mod NodesOf
 pub mod Numbering
