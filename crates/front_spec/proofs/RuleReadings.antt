@@ -41,6 +41,9 @@ module _ {V W : Type 0} (f : V → W) (P : Part V) (F : Follow) where
     only = λ w more follows is. let same = reading.only is.v more follows is.is in (is.said ∙ ap f same.0, same.1);
   }
 
+  pub seen_none : (tokens : List Lexeme) → NoReading P F tokens → NoReading (Seen f P) F tokens
+  seen_none tokens none w more follows is = none is.v more follows is.is
+
 -- an expression ends before `/` and `:`
 pub ends_at : (code : ℕ) (rest : List Lexeme) → (code ≡ 42 → ⊥) → (code ≡ 43 → ⊥) → (code ≡ 63 → ⊥) → (code ≡ 46 → ⊥) → (code ≡ 40 → ⊥) → (code ≡ 124 → ⊥)
     → EndsRegex (sign (code ∷ []) ∷ rest)

@@ -12,6 +12,14 @@ word_follows _ w rest at (comma more) = cc
 word_follows _ w rest at (arrow more) = cc
 word_follows _ w rest at (a_word_behind v more among) = let same : v ≡ w = cc in rw (sym same) among
 
+pub other_token : (tokens : List Lexeme) (token : Lexeme) (rest : List Lexeme) → tokens ≡ token ∷ rest → ((w : List ℕ) → token ≡ word w → ⊥)
+    → (token ≡ sign (codes ")") → ⊥) → (token ≡ sign (codes ",") → ⊥) → (token ≡ sign (codes "=>") → ⊥) → MayFollow tokens → ⊥
+other_token _ token rest at no_word no_close no_comma no_arrow nothing_follows = cc
+other_token _ token rest at no_word no_close no_comma no_arrow (closing more) = no_close cc
+other_token _ token rest at no_word no_close no_comma no_arrow (comma more) = no_comma cc
+other_token _ token rest at no_word no_close no_comma no_arrow (arrow more) = no_arrow cc
+other_token _ token rest at no_word no_close no_comma no_arrow (a_word_behind w more among) = no_word w cc
+
 pub arrow_left : (tokens : List Lexeme) (token : Lexeme) (rest : List Lexeme) → tokens ≡ token ∷ rest → ((w : List ℕ) → token ≡ word w → ⊥)
     → (token ≡ sign (codes ")") → ⊥) → (token ≡ sign (codes ",") → ⊥) → MayFollow tokens → token ≡ sign (codes "=>")
 arrow_left _ token rest at no_word no_close no_comma nothing_follows = cc

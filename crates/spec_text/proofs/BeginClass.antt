@@ -64,3 +64,10 @@ no_class_there line none = λ said m begins.
 
 pub set_shorter : (bytes words rest : List ℕ) → IsSetAt bytes words rest → length rest < length bytes
 set_shorter bytes words rest is = let a = ap length is.are in let b = length-append is.inside (93 ∷ rest) in omega (arith, a, b)
+
+pub no_these : (bytes : List ℕ) (first : ℕ) (after : List ℕ) → bytes ≡ first ∷ after → (first ≡ 94 → ⊥) → HasNoClass bytes → HasNoSet bytes
+no_these bytes first after at plain none inside rest set are says = by inside set are says
+  where
+    by : (inside : List ℕ) (set : ℕ → Bool) → bytes ≡ inside ++ 93 ∷ rest → ClassSays inside set → ⊥
+    by _ _ are (these inside spans listed some plain_first) = none inside rest spans are some listed
+    by _ _ are (others hat inside spans is_hat listed some) = plain (let e : first ≡ hat = (let f = sym at ∙ are in cc) in e ∙ is_hat)
