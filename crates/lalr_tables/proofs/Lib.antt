@@ -1,3 +1,4 @@
+mod AtTheLimit
 mod Examples
 pub mod Completing
 pub mod Exact
