@@ -1,5 +1,5 @@
 ghost use Rattle.std.specs.Prelude.{◌≡◌, ℕ, ◌+◌, ◌^◌, ◌<◌, ◌↔◌, [], ◌∷◌, length, IfOk, OnOk, OnErr, IsNone, Contains, slice_get};
-ghost use Rattle.ck_base.specs.Numbered.{met, number_of};
+ghost use Rattle.ck_base.specs.Numbered.{AreApart, met, number_of};
 
 use indexmap::IndexSet;
 use std::alloc::Global;
@@ -74,5 +74,12 @@ impl Names {
         ensures { result ≡ length self.now }
     {
         self.names.len() as u32
+    }
+
+    /// No name is there twice. The call does nothing: it is for what it says.
+    pub fn are_apart(&self)
+        ensures { AreApart self.now }
+    {
+        let _ = &self.names;
     }
 }
