@@ -24,6 +24,7 @@ pub mod Names
 pub mod OneFault
 pub mod Frame
 pub mod Numbers
+pub mod Sizes
 pub mod Others
 pub mod Parting
 pub mod SomeReading

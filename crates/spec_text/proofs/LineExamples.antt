@@ -2,11 +2,12 @@
 use Rattle.std.proofs.Common.{◌≡◌, ℕ, zero, suc, ◌<◌, List, [], ◌∷◌, take, slice_index_or, refl, Some, None, codes, arith}
 use Rattle.ck_base.specs.declared.fault.Kind.TheVariants.{Syntax, Limit}
 use Rattle.spec_text.specs.Bytes.{is_word_byte}
-use Rattle.spec_text.specs.Lexemes.{word, number, Form, a_word, a_number, Begins}
+use Rattle.spec_text.specs.Lexemes.{word, number, text, Form, a_word, a_number, Begins}
 use Rattle.spec_text.specs.Reading.{Placed, Reads, nothing, a_token, too_large, no_token, most}
 use Rattle.spec_text.specs.TextLines.{ended, unended}
 use Rattle.spec_text.specs.Lines.{Line, none_read, silent, speaks, FileLines}
 use Rattle.spec_text.specs.Sections.{IsHead, SectionFault, part_from}
+use Rattle.spec_text.specs.Sizes.{line_bytes}
 use Rattle.spec_text.specs.Spans.{IsLineOf, Spells, spans_in, spans_of}
 use Rattle.spec_text.specs.declared.line.SpecLine.{SpecLine}
 use Rattle.spec_text.specs.declared.order.State.TheVariants.{Start, Open}
@@ -88,3 +89,7 @@ another_word_is_not have is = by (is.spelled 0 (record { said = word []; from = 
     by : Form (codes "REX") (word (codes "AST")) → ⊥
     by form = let same = (as_word (codes "REX") (word (codes "AST")) form refl).1 in
         let code : ◌≡◌ {A = ℕ} 65 82 = cc in omega (arith, code)
+
+-- the line `a "b"` behind three bytes has tokens of 4 bytes: the quotes count, the gap doesn't
+pub bytes_of_tokens : line_bytes (record { number = 2; bad = None; tokens = record { said = word (codes "a"); from = 3; to = 4 } ∷ record { said = text (codes "b"); from = 5; to = 8 } ∷ [] } ∷ []) ≡ 4
+bytes_of_tokens = refl

@@ -53,7 +53,7 @@ spelled_line _ _ _ _ (no_token at byte rest no_blank no_hash none) file behind s
 abbrev IsPlaced : List ℕ → TextLine → Type 0
 IsPlaced file line = (behind : List ℕ) × Stands file line.at line.bytes behind
 
-stripped : (bytes : List ℕ) → (end : List ℕ) × (bytes ≡ strip_carriage_return bytes ++ end)
+pub stripped : (bytes : List ℕ) → (end : List ℕ) × (bytes ≡ strip_carriage_return bytes ++ end)
 stripped bytes = by (slice_index bytes (length bytes - 1) == 13) refl
   where
     by : (b : Bool) → (slice_index bytes (length bytes - 1) == 13) ≡ b → (end : List ℕ) × (bytes ≡ strip_carriage_return bytes ++ end)

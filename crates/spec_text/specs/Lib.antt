@@ -6,6 +6,7 @@ pub mod Reading
 pub mod TextLines
 pub mod Lines
 pub mod Spans
+pub mod Sizes
 pub mod Sections
 pub mod Promise
 pub mod Seen
