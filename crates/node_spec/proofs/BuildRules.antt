@@ -420,8 +420,3 @@ are_builds g ds i list end each so = same_builds ds g.labels g.grammar.rules lis
     (λ k label rule named at.
     so.each k label rule named at
     ∙ ap (λ l. Some (unwrap_or (build_by (table_by ds) (build_line l label) rule.right) (var 0))) (take_all ds i end))
-
--- of names one after the other, which each has one place alone
-pub record ApartSoFar (names : List (List ℕ)) (i : ℕ) : Type 0 where
-  pub alone : (j k : ℕ) (name : List ℕ) → j < i → slice_get names j ≡ Some name → slice_get names k ≡ Some name
-      → j ≡ k

@@ -8,7 +8,10 @@ use Rattle.expr_lang.specs.declared.expr.Op.TheVariants as op
 use Rattle.spec_text.specs.Lexemes as lex
 use Rattle.spec_text.specs.Lexemes.{Lexeme, word, sign}
 use Rattle.node_spec.specs.Spoken.{Spoken, SpokenList, number, negative, binary, if_then, applied, grouped, no_spoken, and_spoken, nesting}
+use Rattle.node_spec.specs.Spoken as spoken
 use Rattle.node_spec.specs.Notation.{AtLevel, tighter, an_if, joined, a_negative, a_number, Arguments, some_arguments, Listed, last, next, IsName, IsSpoken, own_words, words_behind, MayFollow, nothing_follows, closing, comma, arrow, a_word_behind, no_arguments}
+use Rattle.node_spec.specs.Strings.{string_bytes, declared_bytes}
+use Rattle.node_spec.specs.AstShapes as shape
 use Rattle.node_spec.specs.within.Wholes.{Whole, ends, chained, prefixed, primary, no_prefix, a_leaf}
 use Rattle.node_spec.proofs.Following.{other_token, word_follows}
 use Rattle.node_spec.proofs.Glyphs.{same_rest}
@@ -215,3 +218,15 @@ nesting_of_65 e is =
     let same = (one_whole 0 (signs 64) [] [] (signed 64) e (line_whole (signs 64) [] (signed 64) (all_signs 64) nothing_follows)
     (line_whole (signs 64) [] e is.at_level nothing_follows)).0 in
     let much = ap nesting same in let is_65 = deep 64 in let few = is.few in omega (arith, much, is_65, few)
+
+-- in `put(m, ("ab"), "c")` the strings have 3 bytes: names, quotes and parentheses don't count
+abbrev two_strings : Spoken
+two_strings =
+    applied (codes "put") (and_spoken (spoken.name (codes "m")) (and_spoken (grouped (spoken.string (codes "ab"))) (and_spoken (spoken.string (codes "c")) no_spoken)))
+
+pub strings_alone : string_bytes two_strings ≡ 3
+strings_alone = refl
+
+-- a line that is no BUILD line has no strings
+pub of_build_lines : declared_bytes (record { number = 1; said = shape.node (codes "n") (codes "f") } ∷ record { number = 2; said = shape.build (codes "r") two_strings } ∷ []) ≡ 3
+of_build_lines = refl

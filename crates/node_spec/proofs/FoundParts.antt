@@ -1,13 +1,13 @@
 -- The expression at a place, from what was read of the tokens from there on.
-use Rattle.std.proofs.Common.{◌≡◌, ap, refl, sym, ◌∙◌, subst, arith, ℕ, ◌+◌, ◌-◌, ◌<◌, ◌≤◌, ◌^◌, Bool, List, [], ◌++◌, length, take, drop, map, All, None}
-use Rattle.std.proofs.lemmas.List.{take-append-drop, length-map, length-drop, length-take, drop-map}
+use Rattle.std.proofs.Common.{◌≡◌, ap, sym, ◌∙◌, subst, arith, ℕ, ◌+◌, ◌-◌, ◌≤◌, Bool, List, [], ◌++◌, length, take, drop, map, None}
+use Rattle.std.proofs.lemmas.List.{take-append-drop, length-map, drop-map}
 use Rattle.std.proofs.lemmas.List.Elements.{All-drop}
 use Rattle.spec_text.specs.Lexemes.{Lexeme}
 use Rattle.spec_text.specs.Lines.{Line, said_by}
 use Rattle.spec_text.specs.Parts.{Reading, NoReading}
 use Rattle.spec_text.specs.Reading.{Placed}
 use Rattle.spec_text.specs.Seen.{seen}
-use Rattle.spec_text.specs.Spans.{SpanLine, Spells, span_of, spans_in, spans_of, IsLineOf}
+use Rattle.spec_text.specs.Spans.{Spells, span_of, spans_in, spans_of, IsLineOf}
 use Rattle.spec_text.specs.declared.line.SpecLine.{SpecLine}
 use Rattle.spec_text.specs.declared.token.SpecToken.{SpecToken}
 use Rattle.spec_text.specs.declared.view.Token.{Token}
@@ -18,8 +18,10 @@ use Rattle.expr_lang.specs.declared.expr.Expr.{Expr}
 use Rattle.expr_lang.specs.declared.expr.Scope.{Scope}
 use Rattle.node_spec.specs.Resolving.{Vocabulary, Means, MeansNothing, has_unknown}
 use Rattle.node_spec.specs.Spoken.{Spoken}
-use Rattle.node_spec.specs.Written.{AreTokensOf, said_in, StandsAt, vocabulary_of}
-use Rattle.node_spec.specs.declared.scope.NameScope.{NameScope}
+use Rattle.node_spec.specs.Written.{AreTokensOf, said_in, StandsAt}
+use Rattle.node_spec.specs.Strings.{string_bytes}
+use Rattle.spec_text.specs.Sizes.{token_bytes}
+use Rattle.node_spec.proofs.StringBytes.{spoken_bytes}
 use Rattle.node_spec.proofs.Ends.{IsEndOf, level_end, end_on, end_place}
 
 abbrev line_of : List Placed → ℕ → Line
@@ -64,6 +66,15 @@ found_stands file tokens at next views rest e each reading follows count said ar
     (let tokens_count = ap length are.same ∙ length-map said span_of in
     let said_count = length-map said (λ token. token.said) in
     let rest_count = length-map rest seen in omega (arith, count, tokens_count, said_count, rest_count))
+
+-- what the strings of the expression add, the bytes of the tokens at most
+pub read_bytes : (file : List ℕ) (tokens : List SpecToken) (at : ℕ) (views rest : List Token) (e : Spoken)
+    → ((said : List Placed) → AreTokensOf file tokens said → map seen views ≡ drop at (said_in said))
+    → Reading IsSpoken MayFollow (map seen views) e (map seen rest) → (old new : List ℕ) → length new ≤ length old + string_bytes e
+    → (said : List Placed) → AreTokensOf file tokens said → length new ≤ length old + token_bytes (drop at said)
+read_bytes file tokens at views rest e each reading old new few said are =
+    let most = spoken_bytes file (drop at said) (map seen views) e (map seen rest) (All-drop (Spells file) at said are.spelled)
+    (each said are ∙ drop-map (λ token. token.said) at said) reading.is in omega (arith, few, most)
 
 pub none_stands : (file : List ℕ) (tokens : List SpecToken) (at : ℕ) (views : List Token)
     → ((said : List Placed) → AreTokensOf file tokens said → map seen views ≡ drop at (said_in said))

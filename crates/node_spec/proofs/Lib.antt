@@ -54,9 +54,11 @@ mod ResolvedParts
 mod SameMakers
 mod Sayings
 mod Starts
+mod StringBytes
 mod ToWhole
 mod TwiceExamples
 mod TypingExamples
 mod UnknownExamples
 mod WholeParts
+mod WrittenBytes
 mod WrittenExamples

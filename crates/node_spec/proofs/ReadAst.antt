@@ -1,22 +1,24 @@
 -- What the whole section AST gives: the declared nodes, which fit the grammar, or its first fault.
-use Rattle.std.proofs.Common.{◌≡◌, ℕ, ◌+◌, ◌≤◌, ◌<◌, ◌^◌, List, length, map, refl, ap, Result, IfErr, Option, Some, None, IsSome, MatchOption, arith}
+use Rattle.std.proofs.Common.{◌≡◌, ℕ, ◌+◌, ◌≤◌, List, length, map, refl, ap, Result, IfErr, Option, Some, None, IsSome, MatchOption, arith}
 use Rattle.std.specs.Result.{IsErrAnd}
 use Rattle.ck_base.specs.declared.fault.SpecFault.{SpecFault}
 use Rattle.ck_base.specs.declared.fault.SpecFault.TheVariants.{Bad, NoMemory}
 use Rattle.cfg_model.specs.declared.named.NamedGrammar.{NamedGrammar}
-use Rattle.spec_text.specs.Declares.{Declared, DeclareAll, Grow}
+use Rattle.spec_text.specs.Declares.{DeclareAll, Grow}
 use Rattle.spec_text.specs.FirstFault.{Accepts}
 use Rattle.spec_text.specs.Lines.{Line}
 use Rattle.spec_text.specs.Promise.{HasSection, IsSectionOf}
 use Rattle.spec_text.specs.Sections.{SectionLines}
+use Rattle.spec_text.specs.Sizes.{line_bytes}
 use Rattle.spec_text.specs.Spans.{AreLinesOf}
 use Rattle.spec_text.specs.declared.section.Section.TheVariants.{Ast}
 use Rattle.spec_text.specs.declared.section.SectionText.{SectionText}
 use Rattle.spec_text.proofs.Frame.{declared_grow}
 use Rattle.spec_text.proofs.Numbers.{section_grows, section_few}
+use Rattle.spec_text.proofs.Sizes.{section_bytes}
+use Rattle.spec_text.proofs.OneSections.{one_section}
 use Rattle.spec_text.proofs.PassedOn.{passed_on}
 use Rattle.spec_text.proofs.Views.{as_many}
-use Rattle.node_spec.specs.AstShapes.{AstSaying}
 use Rattle.node_spec.specs.AstBuilds.{nodes_by}
 use Rattle.node_spec.specs.AstFaults.{ast}
 use Rattle.node_spec.specs.AstPromise.{judged_ast, DeclaresNodes, IsAstFault}
@@ -25,6 +27,8 @@ use Rattle.node_spec.specs.declared.ast_line.AstLine.{AstLine}
 use Rattle.node_spec.specs.within.AstBuilt.{AllBuild}
 use Rattle.node_spec.specs.within.AstSeen.{declared_by}
 use Rattle.node_spec.specs.within.AstSteps.{IsBefore, IsFirstOf}
+use Rattle.node_spec.specs.Strings.{declared_bytes}
+use Rattle.node_spec.proofs.StringBytes.{lines_bytes}
 use Rattle.node_spec.proofs.AstHead.{head_before}
 use Rattle.node_spec.proofs.FitsGrammar.{fits_grammar}
 
@@ -55,6 +59,19 @@ module _ (file : List ℕ) (g : NamedGrammar) (text : SectionText) (is : IsSecti
 
     pub list_behind : IsBefore text.head (map declared_by rows)
     list_behind = head_before file Ast is.these is.has (ast g) text.head (map declared_by rows) is.head all_declared
+
+    -- what the strings of the lines add, the bytes of the section's tokens at most
+    pub adds_few : (old new : List ℕ) → length new ≤ length old + declared_bytes (map declared_by rows)
+        → (lines : SectionLines) → HasSection file Ast lines → length new ≤ length old + line_bytes lines.inside
+    adds_few old new few lines has =
+        let most = lines_bytes file g is.these.inside (map declared_by rows) is.lines.spelled all_declared in
+        let same = ap (λ (s : SectionLines). line_bytes s.inside) (one_section file Ast is.these lines is.has has) in
+        omega (arith, most, few, same)
+
+    pub adds_within : (old new : List ℕ) → length new ≤ length old + declared_bytes (map declared_by rows) → length new ≤ length old + length file
+    adds_within old new few =
+        let most = lines_bytes file g is.these.inside (map declared_by rows) is.lines.spelled all_declared in
+        let all = section_bytes file Ast is.these is.has in omega (arith, most, all, few)
 
     module _ (accepts : (these : SectionLines) → text.head ≡ these.head → DeclareAll (ast g) these.inside (map declared_by rows)
         → Accepts (judged_ast g these) (map declared_by rows)) where

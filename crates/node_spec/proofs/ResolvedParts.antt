@@ -1,5 +1,5 @@
 -- What an expression means, from what its parts mean.
-use Rattle.std.proofs.Common.{◌≡◌, ap, ap₂, refl, sym, ◌∙◌, ℕ, ◌+◌, ◌<◌, ◌≤◌, List, [], ◌∷◌, ◌++◌, map, length, drop, get_or, pos, append_assoc, append-nil, Option, Some, None}
+use Rattle.std.proofs.Common.{◌≡◌, ap, ap₂, refl, sym, ◌∙◌, ℕ, ◌+◌, ◌<◌, ◌≤◌, List, [], ◌∷◌, ◌++◌, map, length, drop, get_or, pos, append_assoc, append-nil, Option, Some, None, arith}
 use Rattle.std.proofs.lemmas.List.{drop_more, map-append, drop_all}
 use Rattle.std.specs.Prelude.{IfOk, Result, Ok, Err}
 use Rattle.std.specs.Borrow.{Bor}
@@ -16,6 +16,8 @@ use Rattle.node_spec.specs.declared.written.Written.TheVariants.{Number, Negativ
 use Rattle.node_spec.proofs.Sayings.{says-Number, says-Negative, says-Negated, says-Binary, says-If}
 use Rattle.node_spec.specs.within.Meant.{AlwaysMeans, AlwaysMeanAll, meaning_in}
 use Rattle.node_spec.specs.within.Writing.{spoken_of, spoken_list}
+use Rattle.node_spec.specs.Strings.{string_bytes}
+use Rattle.node_spec.proofs.WrittenBytes.{bytes_of_list, next_bytes}
 
 pub grew_not : (l : List ℕ) → Grew l l
 grew_not l = ([], sym (append-nil l))
@@ -103,13 +105,14 @@ with_front-end (x ∷ xs) = ap (and_all (Some x)) (with_front-end xs)
 abbrev rest_of : Vocabulary → List Written → Option Expressions
 rest_of words list = resolved_all words (spoken_list (map spoken_of list))
 
--- the first expressions of a list are these, and their strings lie in the literals that are there now
+-- the first expressions of a list are these, and their strings, and no more, were put behind the literals
 pub record ListSoFar (words : Vocabulary) (old now : List ℕ) (found : List Expr) (list : List Written) (i : ℕ) : Type 0 where
   pub grew : Grew old now
+  pub few : length now + bytes_of_list (drop i list) ≤ length old + bytes_of_list list
   pub are : (s more : List ℕ) → with_front (map (meaning s (now ++ more)) found) (rest_of words (drop i list)) ≡ rest_of words list
 
 pub list_first : (words : Vocabulary) (old : List ℕ) (found : List Expr) (list : List Written) → found ≡ [] → ListSoFar words old old found list 0
-list_first words old found list none = record { grew = grew_not old; are = λ s more. ap (λ es. with_front (map (meaning s (old ++ more)) es) (rest_of words list)) none }
+list_first words old found list none = record { grew = grew_not old; few = omega arith; are = λ s more. ap (λ es. with_front (map (meaning s (old ++ more)) es) (rest_of words list)) none }
 
 -- what is at the place, and what is behind it
 module _ (words : Vocabulary) (old now : List ℕ) (found : List Expr) (list : List Written) (i : ℕ) (x : Written) (so_far : ListSoFar words old now found list i)
@@ -121,9 +124,16 @@ module _ (words : Vocabulary) (old now : List ℕ) (found : List Expr) (list : L
   still s more = ap (with_front (map (meaning s (new ++ more)) found)) (sym next)
       ∙ ap (λ z. with_front (map (meaning s z) found) (rest_of words (drop i list))) (behind now new more grew) ∙ so_far.are s (grew.0 ++ more)
 
-  pub list_more : (e : Expr) (longer : List Expr) → longer ≡ found ++ e ∷ [] → AlwaysMeans new (Some e) (resolved words (spoken_of x)) → ListSoFar words old new longer list (i + 1)
-  list_more e longer one means = record {
+  -- what the next one adds, its strings at most
+  pub few_more : length new ≤ length now + string_bytes (spoken_of x)
+      → length new + bytes_of_list (drop (i + 1) list) ≤ length old + bytes_of_list list
+  few_more few = let step = next_bytes list i x within is in let before = so_far.few in omega (arith, step, before, few)
+
+  pub list_more : (e : Expr) (longer : List Expr) → longer ≡ found ++ e ∷ [] → AlwaysMeans new (Some e) (resolved words (spoken_of x))
+      → length new ≤ length now + string_bytes (spoken_of x) → ListSoFar words old new longer list (i + 1)
+  list_more e longer one means few = record {
     grew = grew_on old now new so_far.grew grew;
+    few = few_more few;
     are = λ s more. ap (λ es. with_front (map (meaning s (new ++ more)) es) (rest_of words (drop (i + 1) list))) one
         ∙ ap (λ es. with_front es (rest_of words (drop (i + 1) list))) (map-append (meaning s (new ++ more)) found (e ∷ []))
         ∙ with_front-last (map (meaning s (new ++ more)) found) (meaning s (new ++ more) e) (rest_of words (drop (i + 1) list))

@@ -1,7 +1,8 @@
-ghost use Rattle.std.specs.Prelude.{◌≡◌, ◌≤◌, ◌++◌, ℕ, List, length, IfOk, IfErr};
+ghost use Rattle.std.specs.Prelude.{◌≡◌, ◌+◌, ◌≤◌, ◌++◌, ℕ, List, length, IfOk, IfErr};
 ghost use Rattle.cfg_model.specs.Cfg.{IsGrammar};
 ghost use Rattle.spec_text.specs.Promise.{AreSectionsOf, HasSection, IsSectionOf};
 ghost use Rattle.spec_text.specs.Sections.{SectionLines};
+ghost use Rattle.spec_text.specs.Sizes.{line_bytes};
 ghost use Rattle.spec_text.specs.declared.section.Section.TheVariants.{Ast};
 ghost use Rattle.node_spec.specs.AstPromise.{DeclaresNodes, Grew, IsAstFault};
 ghost use Rattle.node_spec.specs.Nodes.{FitGrammar, nodes_of};
@@ -21,7 +22,8 @@ use value_store::Literals;
 /// shape; else the first line of kind twice, then unknown, then type, then limit. Of kind unknown
 /// and type the line of the section's head may be at fault too, which is then the first. `s` is
 /// what `sections` gives of `spec`, which has such a section, and `g` is a grammar in its ranges.
-/// The strings of expressions are put into the literals, also where there is a fault.
+/// The strings of expressions are put into the literals, also where there is a fault; they have no
+/// more bytes than the tokens of the section.
 pub fn read_ast<'a>(
     alloc: Global,
     arena: &'a Bump<Global>,
@@ -44,6 +46,9 @@ pub fn read_ast<'a>(
         → FitGrammar g.now.grammar (nodes_of source (literals.new ++ more) nodes)) }
     ensures fault { IfErr result (IsAstFault spec.now g.now) }
     ensures grew { Grew literals.old literals.new }
+    ensures few { (lines : SectionLines) → HasSection spec.now Ast lines
+        → length literals.new ≤ length literals.old + line_bytes lines.inside }
+    ensures within { length literals.new ≤ length literals.old + length spec.now }
 {
     let section = ast_of(s);
     let texts = Bump::new(alloc);

@@ -1,4 +1,4 @@
-ghost use Rattle.std.specs.Prelude.{◌≡◌, ◌+◌, ◌<◌, ◌^◌, ◌++◌, ℕ, List, length, map, IfOk, IfErr};
+ghost use Rattle.std.specs.Prelude.{◌≡◌, ◌≤◌, ◌+◌, ◌<◌, ◌^◌, ◌++◌, ℕ, List, length, map, IfOk, IfErr};
 ghost use Rattle.cfg_model.specs.Cfg.{IsGrammar};
 ghost use Rattle.ck_base.specs.Numbered.{AreApart};
 ghost use Rattle.ck_base.specs.declared.fault.Kind.TheVariants.{Twice as twice, Typing as typing, Unknown as unknown};
@@ -11,6 +11,7 @@ ghost use Rattle.node_spec.specs.AstFaults.{ast, labels_in};
 ghost use Rattle.node_spec.specs.AstPromise.{Grew, judged_ast};
 ghost use Rattle.node_spec.specs.AstTables.{families_by, rows_in, table_by};
 ghost use Rattle.node_spec.specs.Nodes.{nodes_of};
+ghost use Rattle.node_spec.specs.Strings.{declared_bytes};
 ghost use Rattle.node_spec.specs.within.AstBuilt.{AllBuild};
 ghost use Rattle.node_spec.specs.within.AstSeen.{declared_by, row_seen};
 ghost use Rattle.node_spec.specs.within.AstSteps.{AreFamilies, HasIn, HasNone, IsBefore, IsFirstOf};
@@ -66,6 +67,8 @@ pub(crate) fn declared_nodes<'a>(
         → DeclareAll (ast g.now) these.inside (map declared_by list.now)
         → IsFirstOf g.now these fault) }
     ensures grew { Grew literals.old literals.new }
+    ensures few { length literals.new ≤ length literals.old
+        + declared_bytes (map declared_by list.now) }
 {
     let rows = names.rows.as_slice();
     let types = table_of(alloc, list, &names.families, rows)?;
@@ -130,6 +133,8 @@ fn typed_builds<'a>(
         → HasIn g.now head (map declared_by list.now) typing line → ⊥) }
     ensures fault { IfErr result (IsLeastTyping g.now head (map declared_by list.now)) }
     ensures grew { Grew literals.old literals.new }
+    ensures few { length literals.new ≤ length literals.old
+        + declared_bytes (map declared_by list.now) }
 {
     if joins_families(alloc, g, list, nodes)? {
         return Err(SpecFault::Bad {

@@ -1,10 +1,11 @@
-ghost use Rattle.std.specs.Prelude.{◌≡◌, ◌≤◌, ◌++◌, ◌↔◌, ℕ, IsTrue, List, length, map, IfOk, MatchOption, slice_index};
+ghost use Rattle.std.specs.Prelude.{◌≡◌, ◌+◌, ◌≤◌, ◌++◌, ◌↔◌, ℕ, IsTrue, List, length, map, IfOk, MatchOption, slice_index};
 ghost use Rattle.expr_lang.specs.Expression.{Expression};
 ghost use Rattle.expr_lang.specs.Meaning.{meaning};
 ghost use Rattle.node_spec.specs.AstBuilds.{build_words};
 ghost use Rattle.node_spec.specs.AstPromise.{Grew};
 ghost use Rattle.node_spec.specs.Nodes.{build_context, symbol_type as type_of_symbol};
 ghost use Rattle.node_spec.specs.Resolving.{Means, MeansNothing};
+ghost use Rattle.node_spec.specs.Strings.{string_bytes};
 ghost use Rattle.node_spec.specs.within.AstBuildSteps.{AreBuildWords, IsBuilt};
 ghost use Rattle.node_spec.specs.within.Writing.{spoken_of};
 ghost use Rattle.value_store.specs.declared.value.ValType.TheVariants as ty;
@@ -49,6 +50,8 @@ pub(crate) fn built<'a>(
         (λ x. IsBuilt words.now.types.now words.now.families.now rule.now (spoken_of e.now)
         (meaning source (literals.new ++ more) x.now))) }
     ensures grew { Grew literals.old literals.new }
+    ensures few { length literals.new ≤ length literals.old
+        + string_bytes (spoken_of e.now) }
 {
     let right = rule.right.as_slice();
     let Some((x, of)) = meant_over(alloc, arena, right, words, e, literals)? else {
@@ -90,6 +93,8 @@ fn meant_over<'a>(
         (build_context words.now.families.now words.now.sources.now.makers.items right.now)
         (spoken_of e.now) (meaning source (literals.new ++ more) pair.0) pair.1)) }
     ensures grew { Grew literals.old literals.new }
+    ensures few { length literals.new ≤ length literals.old
+        + string_bytes (spoken_of e.now) }
 {
     let sources = words.sources;
     let vars = symbol_types(alloc, words.families, right)?;

@@ -9,6 +9,7 @@ ghost use Rattle.node_spec.specs.AstBuilds.{builds_from, default_build, nodes_by
 ghost use Rattle.node_spec.specs.AstFaults.{AstHeadFault, labels_in};
 ghost use Rattle.node_spec.specs.AstPromise.{Grew};
 ghost use Rattle.node_spec.specs.AstTables.{families_by, table_by};
+ghost use Rattle.node_spec.specs.Strings.{declared_bytes, saying_bytes};
 ghost use Rattle.node_spec.specs.within.AstBuildSteps.{AreBuildWords, Puts};
 ghost use Rattle.node_spec.specs.within.AstBuilt.{IsBuilds};
 ghost use Rattle.node_spec.specs.within.AstSeen.{declared_by, saying_seen};
@@ -21,7 +22,7 @@ use crate::only_nonterminal::only_nonterminal;
 use ast_types::Types;
 use bumpalo::Bump;
 use cfg_model::{GrammarRule, NamedGrammar};
-use ck_base::{Names, NoMemory};
+use ck_base::NoMemory;
 use expr_lang::Expr;
 use std::alloc::Global;
 use value_store::Literals;
@@ -60,6 +61,8 @@ pub(crate) fn builds_of<'a>(
     ensures builds { IfOk result (λ found. (source more : List ℕ)
         → IsBuilds source (literals.new ++ more) g.now (map declared_by list.now) found) }
     ensures grew { Grew literals.old literals.new }
+    ensures few { length literals.new ≤ length literals.old
+        + declared_bytes (map declared_by list.now) }
 {
     let sources = source_makers(alloc, types)?;
     let rules = g.grammar.rules.as_slice();
@@ -71,7 +74,7 @@ pub(crate) fn builds_of<'a>(
         dollars: dollars.as_slice(),
         sources: &sources,
     };
-    no_label_twice(&g.labels);
+    g.labels.are_apart();
     let mut builds = default_builds(alloc, arena, rules)?;
     for line in list {
         if !put_build(alloc, arena, g, &words, &line.says, &mut builds, literals)? {
@@ -102,6 +105,8 @@ fn put_build<'a>(
         (map (λ e. meaning source (literals.new ++ more) e.now) builds.old.items)
         (map (λ e. meaning source (literals.new ++ more) e.now) builds.new.items) good) }
     ensures grew { Grew literals.old literals.new }
+    ensures few { length literals.new ≤ length literals.old
+        + saying_bytes (saying_seen says.now) }
 {
     let Saying::Build(label, e) = says else {
         return Ok(true);
@@ -159,13 +164,4 @@ fn longest_right(rules: &[GrammarRule]) -> Result<u32, NoMemory>
         return Err(NoMemory);
     }
     Ok(longest as u32)
-}
-
-/// Says that no name is there twice, as `find` says it of each.
-fn no_label_twice(names: &Names)
-    ensures { AreApart names.now }
-{
-    for n in 0..names.len() {
-        names.find(names.text_of(n));
-    }
 }

@@ -2,6 +2,7 @@ ghost use Rattle.std.specs.Prelude.{◌≡◌, ◌+◌, ◌-◌, ◌<◌, ◌≤
 ghost use Rattle.expr_lang.specs.Meaning.{context_of, meaning};
 ghost use Rattle.spec_text.specs.Reading.{Placed};
 ghost use Rattle.spec_text.specs.Seen.{seen};
+ghost use Rattle.spec_text.specs.Sizes.{token_bytes};
 ghost use Rattle.node_spec.specs.AstPromise.{Grew};
 ghost use Rattle.node_spec.specs.Written.{AreTokensOf, IsExprFault, IsFound, said_in, vocabulary_of};
 
@@ -28,7 +29,8 @@ use value_store::{Literals, ValType};
 /// `Unknown` where a name before parentheses is neither a function's nor a maker's, and kind `Typing`
 /// where there is no such name, but another name isn't there or the expression has no type; then
 /// `next` is the number of the token behind it. `NoMemory` comes where memory is wanting. Texts may
-/// have been put into the literals before a refusal.
+/// have been put into the literals before a refusal. In any case no more bytes are put there than
+/// the tokens from `at` on have.
 pub fn read_expr<'a>(
     alloc: Global,
     arena: &'a Bump<Global>,
@@ -51,6 +53,8 @@ pub fn read_expr<'a>(
         → AreTokensOf spec.now tokens.now said → IsExprFault (vocabulary_of scope.now)
         (context_of scope.now.scope sources) (said_in said) at fault) }
     ensures grew { Grew literals.old literals.new }
+    ensures few { (said : List Placed) → AreTokensOf spec.now tokens.now said
+        → length literals.new ≤ length literals.old + token_bytes (drop at said) }
 {
     let texts = Bump::new(alloc);
     let views = views_from(alloc, &texts, spec, tokens, at)?;

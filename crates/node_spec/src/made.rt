@@ -1,4 +1,4 @@
-ghost use Rattle.std.specs.Prelude.{◌≡◌, ◌<◌, ◌^◌, ◌++◌, ℕ, pos, Some, List, length, option_map, IfOk, IfSome};
+ghost use Rattle.std.specs.Prelude.{◌≡◌, ◌+◌, ◌≤◌, ◌<◌, ◌^◌, ◌++◌, ℕ, pos, Some, List, length, option_map, IfOk, IfSome};
 ghost use Rattle.expr_lang.specs.Expression as ex;
 ghost use Rattle.node_spec.specs.AstPromise.{Grew};
 ghost use Rattle.node_spec.specs.Resolving.{applied_to, of_one, of_three, of_two, var_of};
@@ -32,6 +32,7 @@ pub(crate) fn string_expr<'a>(
     ensures is { IfOk result (λ made.
         AlwaysMeans literals.new made (Some (ex.string bytes.now))) }
     ensures grew { Grew literals.old literals.new }
+    ensures few { length literals.new ≤ length literals.old + length bytes.now }
 {
     if literals.bytes().len() + bytes.len() >= 4_294_967_296 {
         return Err(NoMemory);

@@ -1,8 +1,9 @@
-ghost use Rattle.std.specs.Prelude.{◌≡◌, ◌<◌, ◌^◌, ◌++◌, ℕ, Bool, List, length, map, IfOk, MatchOption};
+ghost use Rattle.std.specs.Prelude.{◌≡◌, ◌+◌, ◌≤◌, ◌<◌, ◌^◌, ◌++◌, ℕ, Bool, List, length, map, IfOk, MatchOption};
 ghost use Rattle.expr_lang.specs.Meaning.{context_of, meaning};
 ghost use Rattle.node_spec.specs.AstPromise.{Grew};
 ghost use Rattle.node_spec.specs.Resolving.{Means, MeansNothing, resolved, resolved_all};
 ghost use Rattle.node_spec.specs.Spoken as spoken;
+ghost use Rattle.node_spec.specs.Strings.{listed_bytes, string_bytes};
 ghost use Rattle.node_spec.specs.within.Meant.{AlwaysMeanAll, AlwaysMeans, meaning_in};
 ghost use Rattle.node_spec.specs.within.Writing.{spoken_list, spoken_of};
 
@@ -37,6 +38,8 @@ pub(crate) fn meant_in<'a>(
         (λ pair. Means words.now (context_of scope.now sources) (spoken_of e.now)
         (meaning source (literals.new ++ more) pair.0) pair.1)) }
     ensures grew { Grew literals.old literals.new }
+    ensures few { length literals.new ≤ length literals.old
+        + string_bytes (spoken_of e.now) }
 {
     let Some(meant) = resolved_expr(arena, e, words, literals)? else {
         return Ok(None);
@@ -61,6 +64,8 @@ pub(crate) fn resolved_expr<'a>(
     ensures is { IfOk result (λ found.
         AlwaysMeans literals.new found (resolved words.now (spoken_of e.now))) }
     ensures grew { Grew literals.old literals.new }
+    ensures few { length literals.new ≤ length literals.old
+        + string_bytes (spoken_of e.now) }
 {
     match e {
         Written::Number(n) => number_expr(*n),
@@ -101,6 +106,8 @@ fn resolved_applied<'a>(
     ensures is { IfOk result (λ found. AlwaysMeans literals.new found (resolved words.now
         (spoken.applied name.now (spoken_list (map spoken_of args.now))))) }
     ensures grew { Grew literals.old literals.new }
+    ensures few { length literals.new ≤ length literals.old
+        + listed_bytes (spoken_list (map spoken_of args.now)) }
 {
     let parts = resolved_list(arena, args, words, literals)?;
     let maker = place_in(words.makers, name);
@@ -120,6 +127,8 @@ fn resolved_list<'a>(
     ensures are { IfOk result (λ found. AlwaysMeanAll literals.new found
         (resolved_all words.now (spoken_list (map spoken_of list.now)))) }
     ensures grew { Grew literals.old literals.new }
+    ensures few { length literals.new ≤ length literals.old
+        + listed_bytes (spoken_list (map spoken_of list.now)) }
 {
     let mut parts = Vec::new(arena);
     for part in list {

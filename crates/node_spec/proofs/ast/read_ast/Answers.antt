@@ -2,7 +2,7 @@
 use Rattle.std.proofs.Common.{arith}
 use Rattle.spec_text.proofs.Numbers.{section_grows}
 use Rattle.spec_text.specs.declared.section.Section.TheVariants.{Ast}
-use Rattle.node_spec.proofs.ReadAst.{fault_passed, list_few, list_grows, list_behind, all_declared, declares, fits}
+use Rattle.node_spec.proofs.ReadAst.{fault_passed, list_few, list_grows, list_behind, all_declared, adds_few, adds_within, declares, fits}
 use Rattle.node_spec.proofs.ast.read_ast.Goals as goal
 
 pub ast_lines-requires : goal.ast_lines-requires
@@ -69,6 +69,30 @@ returns-in_err-nodes-clause-fault c =
     (c.in_err-nodes.ensures.fault is.these is.head
     (all_declared c.args.spec.now c.args.g.now _ is _ _ c.as_slice-list.ensures.value c.requires.size
     c.in_ok-list.ensures.declared c.in_ok-list.ensures.few))
+
+pub returns-in_err-nodes-clause-few : goal.returns-in_err-nodes-clause-few
+returns-in_err-nodes-clause-few c =
+    let is = c.ast_of-section.ensures c.args.spec.now c.requires.read in
+    adds_few c.args.spec.now c.args.g.now _ is _ _ c.as_slice-list.ensures.value c.requires.size
+    c.in_ok-list.ensures.declared c.in_ok-list.ensures.few c.args.literals.now c.declared_nodes.new.literals c.declared_nodes.ensures.few
+
+pub returns-in_err-nodes-clause-within : goal.returns-in_err-nodes-clause-within
+returns-in_err-nodes-clause-within c =
+    let is = c.ast_of-section.ensures c.args.spec.now c.requires.read in
+    adds_within c.args.spec.now c.args.g.now _ is _ _ c.as_slice-list.ensures.value c.requires.size
+    c.in_ok-list.ensures.declared c.in_ok-list.ensures.few c.args.literals.now c.declared_nodes.new.literals c.declared_nodes.ensures.few
+
+pub returns-clause-few : goal.returns-clause-few
+returns-clause-few c =
+    let is = c.ast_of-section.ensures c.args.spec.now c.requires.read in
+    adds_few c.args.spec.now c.args.g.now _ is _ _ c.as_slice-list.ensures.value c.requires.size
+    c.in_ok-list.ensures.declared c.in_ok-list.ensures.few c.args.literals.now c.declared_nodes.new.literals c.declared_nodes.ensures.few
+
+pub returns-clause-within : goal.returns-clause-within
+returns-clause-within c =
+    let is = c.ast_of-section.ensures c.args.spec.now c.requires.read in
+    adds_within c.args.spec.now c.args.g.now _ is _ _ c.as_slice-list.ensures.value c.requires.size
+    c.in_ok-list.ensures.declared c.in_ok-list.ensures.few c.args.literals.now c.declared_nodes.new.literals c.declared_nodes.ensures.few
 
 pub returns-clause-nodes : goal.returns-clause-nodes
 returns-clause-nodes c = λ source more.

@@ -1,5 +1,5 @@
 -- By what the line says.
-use Rattle.std.proofs.Common.{◌∙◌, ap, sym}
+use Rattle.std.proofs.Common.{◌∙◌, ap, sym, arith}
 use Rattle.ck_base.specs.Numbered.{number_of}
 use Rattle.cfg_model.specs.declared.named.NamedGrammar.{NamedGrammar}
 use Rattle.node_spec.specs.within.AstSeen.{saying_seen}
@@ -11,6 +11,7 @@ pub returns-in_default : goal.returns-in_default
 returns-in_default c = record {
   puts = λ source more. no_build_line _ _ _ c.args.says.now _ c.in_default.not-Build;
   grew = not_grown _;
+  few = omega arith;
 }
 
 pub returns-in_default-find-clause-puts : goal.returns-in_default-find-clause-puts

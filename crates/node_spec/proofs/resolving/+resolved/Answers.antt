@@ -56,6 +56,7 @@ pub resolved_list-loop-part-preserved : goal.resolved_list-loop-part-preserved
 resolved_list-loop-part-preserved t c =
     list_more _ _ c.loop-part.literals c.loop-part.parts.items _ c.loop-part.part-index c.part-item.result c.loop-part.invariant c.loop-part-test.true c.part-item.is
     c.resolved_expr.new.literals c.resolved_expr.ensures.grew c.in-Some.meant _ c.in_ok-push.ensures.items (rw c.in-Some.is at c.in_ok-meant.ensures.is)
+    c.resolved_expr.ensures.few
 
 pub resolved_list-returns-in_err-meant-clause-grew : goal.resolved_list-returns-in_err-meant-clause-grew
 resolved_list-returns-in_err-meant-clause-grew t c =
