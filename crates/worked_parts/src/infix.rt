@@ -47,7 +47,7 @@ const ALL: [&str; 30] = [
     "1 2",
 ];
 
-/// Writes what each expression means and its value, or why there is none.
+/// Writes the value of each expression, or why there is none.
 pub(crate) fn show_infix(alloc: Global, out: &mut String) -> Result<(), NoMemory> {
     for written in ALL {
         let line = line_of(alloc, written)?;
