@@ -5,11 +5,10 @@ use Rattle.std.proofs.lemmas.Option.{slice_get-map}
 use Rattle.value_store.specs.declared.value.ValType.{ValType}
 use Rattle.value_store.specs.declared.value.ValType.TheVariants as ty
 use Rattle.ast_types.specs.Items.{child_families, field_types, child_then, field_then}
-use Rattle.ast_types.specs.TypeTable.{Family, NodeType, family_in, type_in, family_at, type_at}
-use Rattle.ast_types.specs.Rows.{family_of_row, type_of_row}
+use Rattle.ast_types.specs.TypeTable.{NodeType, type_in, type_at}
+use Rattle.ast_types.specs.Rows.{type_of_row}
 use Rattle.ast_types.specs.declared.item.Item.{Item}
 use Rattle.ast_types.specs.declared.types.TypeRow.{TypeRow}
-use Rattle.ast_types.specs.declared.types.FamilyRow.{FamilyRow}
 
 one_more : (of : ValType) (fs : List ℕ) (ts : List ValType) (n : ℕ) → length fs + length ts ≡ n → length (child_then of fs) + length (field_then of ts) ≡ n + 1
 one_more (ty.Int) fs ts n e = omega (arith, e)

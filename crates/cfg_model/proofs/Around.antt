@@ -3,9 +3,9 @@ use Rattle.std.proofs.Common.{◌≡◌, ℕ, ◌<◌, ◌≤◌, List, [], ◌�
 use mathlib.Core.List.{reverse, reverse-cons}
 use Rattle.std.proofs.lemmas.List.Elements.{All-tail, All-append}
 use Rattle.cfg_model.specs.declared.symbol.Sym.{Sym}
-use Rattle.cfg_model.specs.declared.symbol.Sym.TheVariants.{T, N}
-use Rattle.cfg_model.specs.Cfg.{Cfg, IsRule, IsGrammar, IsSymbol}
-use Rattle.cfg_model.specs.Steps.{Step, step, Steps, none, more, StepsOnce, word}
+use Rattle.cfg_model.specs.declared.symbol.Sym.TheVariants.{N}
+use Rattle.cfg_model.specs.Cfg.{Cfg, IsGrammar, IsSymbol}
+use Rattle.cfg_model.specs.Steps.{step, Steps, none, more, StepsOnce, word}
 use Rattle.cfg_model.specs.Valid.{Valid, start, closure, move, first_of}
 use Rattle.cfg_model.proofs.Forests.{steps_then, steps_within, word_append}
 use Rattle.cfg_model.proofs.InGrammar.{behind_dot, known_word}

@@ -1,8 +1,8 @@
 -- What a list begins with, symbol by symbol.
-use Rattle.std.proofs.Common.{◌≡◌, ℕ, ◌↔◌, ◌⊎◌, inl, inr, false, List, [], ◌∷◌, refl, ◌∙◌}
+use Rattle.std.proofs.Common.{◌≡◌, ℕ, ◌↔◌, ◌⊎◌, inl, inr, false, List, ◌∷◌, ◌∙◌}
 use Rattle.ck_base.specs.BitSet.{BitSet, Has, Adds}
 use Rattle.cfg_model.specs.declared.symbol.Sym.{Sym}
-use Rattle.cfg_model.specs.declared.symbol.Sym.TheVariants.{T, N}
+use Rattle.cfg_model.specs.declared.symbol.Sym.TheVariants.{N}
 use Rattle.cfg_model.specs.within.Closing.{AllPass}
 use Rattle.cfg_model.specs.Rows.{In}
 use Rattle.cfg_model.specs.within.Parts.{Begins}

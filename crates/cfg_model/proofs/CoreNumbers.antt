@@ -1,12 +1,12 @@
 -- What a list of cores that is closed under moves says of all prefixes.
-use Rattle.std.proofs.Common.{◌≡◌, ◌≢◌, ℕ, zero, suc, ◌+◌, ◌<◌, ◌≤◌, ◌↔◌, ◌⊎◌, inl, inr, List, [], ◌∷◌, ◌++◌, length, refl, sym, ap, ap₂, subst, ◌∙◌, arith, slice_get, Some, None, Option, Contains, drop}
+use Rattle.std.proofs.Common.{◌≡◌, ℕ, zero, suc, ◌<◌, List, [], ◌∷◌, length, refl, sym, ap, subst, ◌∙◌, arith, drop}
 use Rattle.cfg_model.specs.declared.symbol.Sym.{Sym}
-use Rattle.cfg_model.specs.declared.symbol.Sym.TheVariants.{T, N}
-use Rattle.cfg_model.specs.Cfg.{Cfg, Rule, IsRule, IsGrammar}
-use Rattle.cfg_model.specs.Valid.{Valid, InCore, HasCore, SameCore, Look, Spreads, Begins}
+use Rattle.cfg_model.specs.declared.symbol.Sym.TheVariants.{N}
+use Rattle.cfg_model.specs.Cfg.{Cfg, IsRule}
+use Rattle.cfg_model.specs.Valid.{Valid, InCore, HasCore, SameCore, Spreads, Begins}
 use Rattle.cfg_model.specs.Items.{right_or, right_of}
-use Rattle.cfg_model.specs.Cores.{CoreList, items_at, moves_at, IsCore, IsCores}
-use Rattle.cfg_model.proofs.LooksSpread.{same_self, same_back, same_on, same_moved, looks_spread, same_spreads}
+use Rattle.cfg_model.specs.Cores.{CoreList, IsCore, IsCores}
+use Rattle.cfg_model.proofs.LooksSpread.{same_back, looks_spread}
 
 pub right_is : (g : Cfg) (r n : ℕ) (w : List Sym) → IsRule g r n w → right_of g r ≡ w
 right_is g r n w is =

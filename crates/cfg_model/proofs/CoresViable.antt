@@ -2,7 +2,7 @@
 use Rattle.std.proofs.Common.{◌≡◌, ℕ, List, [], ◌∷◌, ◌++◌, sym, ap, subst, ◌∙◌}
 use mathlib.Core.List.{reverse}
 use Rattle.cfg_model.specs.declared.symbol.Sym.{Sym}
-use Rattle.cfg_model.specs.declared.symbol.Sym.TheVariants.{T, N}
+use Rattle.cfg_model.specs.declared.symbol.Sym.TheVariants.{N}
 use Rattle.cfg_model.specs.Cfg.{Cfg, IsGrammar}
 use Rattle.cfg_model.specs.Derivation.{IsSentence, IsViable}
 use Rattle.cfg_model.specs.Steps.{Steps, word}

@@ -7,7 +7,7 @@ use Rattle.cfg_model.specs.declared.symbol.Sym.{Sym}
 use Rattle.cfg_model.specs.declared.symbol.Sym.TheVariants.{T, N}
 use Rattle.cfg_model.specs.Cfg.{Cfg, Rule, IsRule, IsSymbol, IsGrammar}
 use Rattle.cfg_model.specs.Steps.{Step, step, Steps, none, more, StepsOnce, word}
-use Rattle.cfg_model.specs.Sets.{Nullable, Productive}
+use Rattle.cfg_model.specs.Sets.{Productive}
 use Rattle.cfg_model.specs.Searches.{Cyclic, HiddenLeft, LeftRecursive, IsLeast, IsUnproductive}
 use Rattle.cfg_model.specs.Rows.{IsSetOf, AreRowsOf}
 use Rattle.cfg_model.proofs.Makers.{both_empty}

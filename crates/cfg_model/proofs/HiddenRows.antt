@@ -1,12 +1,12 @@
 -- Rows of what is met behind something that vanishes, and the hidden left recursion that they tell.
-use Rattle.std.proofs.Common.{◌≡◌, ℕ, ◌+◌, ◌≤◌, ◌⊎◌, inl, inr, Bool, true, false, IsTrue, List, [], ◌∷◌, ◌++◌, length, All, get_or, refl, sym, ap, subst, arith, slice_get, Some}
+use Rattle.std.proofs.Common.{◌≡◌, ℕ, ◌+◌, ◌≤◌, ◌⊎◌, inl, inr, Bool, true, false, IsTrue, List, [], ◌∷◌, ◌++◌, length, refl, sym, ap, subst, arith, slice_get, Some}
 use Rattle.std.proofs.lemmas.Option.{slice_get_within}
 use Rattle.std.proofs.lemmas.Bool.{cases_eq}
 use Rattle.ck_base.specs.BitSet.{BitSet, Has}
 use Rattle.cfg_model.specs.declared.symbol.Sym.{Sym}
 use Rattle.cfg_model.specs.declared.symbol.Sym.TheVariants.{T, N}
 use Rattle.cfg_model.specs.declared.rows.Edge.{Edge}
-use Rattle.cfg_model.specs.Cfg.{Cfg, Rule, IsSymbol}
+use Rattle.cfg_model.specs.Cfg.{Cfg, Rule}
 use Rattle.cfg_model.specs.Searches.{HiddenLeft}
 use Rattle.cfg_model.specs.Rows.{In, AreRows}
 use Rattle.cfg_model.specs.within.Closing.{AllPass, Passes, AreMakers}
@@ -14,7 +14,7 @@ use Rattle.cfg_model.specs.within.Spreading.{Leads, here, on, AreSpread}
 use Rattle.cfg_model.specs.within.Parts.{LeftPart}
 use Rattle.cfg_model.specs.within.Runs.{AreLeftEdges, AreRuns}
 use Rattle.cfg_model.specs.within.Trailers.{JoinsRows}
-use Rattle.cfg_model.specs.within.Hiding.{IsBelowIn, Meets, FrontMeets, IsHiddenIn, IsHiddenBefore, AreHidden}
+use Rattle.cfg_model.specs.within.Hiding.{Meets, FrontMeets, IsHiddenIn, IsHiddenBefore, AreHidden}
 use Rattle.cfg_model.proofs.Cycles.{hidden_left_met, HiddenRun, LeftRun, then_hidden, hidden_then, part_hidden}
 use Rattle.cfg_model.proofs.Joining.{leads_then}
 use Rattle.cfg_model.proofs.LeftPaths.{part_steps, steps_join}

@@ -1,8 +1,8 @@
 -- A core is the prefix's set of items without lookaheads.
-use Rattle.std.proofs.Common.{◌≡◌, ℕ, zero, suc, ◌↔◌, List, [], ◌∷◌, refl, subst, sym}
+use Rattle.std.proofs.Common.{ℕ, List, refl}
 use Rattle.cfg_model.specs.declared.symbol.Sym.{Sym}
-use Rattle.cfg_model.specs.declared.symbol.Sym.TheVariants.{T, N}
-use Rattle.cfg_model.specs.Cfg.{Cfg, IsRule, IsGrammar}
+use Rattle.cfg_model.specs.declared.symbol.Sym.TheVariants.{N}
+use Rattle.cfg_model.specs.Cfg.{Cfg, IsGrammar}
 use Rattle.cfg_model.specs.Valid.{Valid, InCore, first_of}
 use Rattle.cfg_model.specs.Sets.{AllProductive}
 use Rattle.cfg_model.specs.Items.{Item}

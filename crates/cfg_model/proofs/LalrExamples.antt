@@ -1,12 +1,12 @@
 -- Cores, united lookaheads and LALR conflicts, each on a case where the nearest wrong reading differs.
-use Rattle.std.proofs.Common.{◌≡◌, ◌≢◌, ℕ, zero, suc, ◌+◌, ◌<◌, ◌≤◌, ◌⊎◌, inl, inr, List, [], ◌∷◌, refl, sym, ap, ap₂, subst, Option, Some, None, slice_get, slice_index_or, Contains, arith}
+use Rattle.std.proofs.Common.{◌≡◌, ℕ, zero, suc, ◌≤◌, ◌⊎◌, inl, inr, List, [], ◌∷◌, refl, ap, ap₂, subst, Option, Some, None, slice_get, slice_index_or, Contains, arith}
 use Rattle.cfg_model.specs.declared.symbol.Sym.{Sym}
 use Rattle.cfg_model.specs.declared.symbol.Sym.TheVariants.{T, N}
-use Rattle.cfg_model.specs.Cfg.{Cfg, Rule, IsRule}
+use Rattle.cfg_model.specs.Cfg.{Cfg, IsRule}
 use Rattle.cfg_model.specs.Steps.{step, Steps, none, more, word}
 use Rattle.cfg_model.specs.Valid.{first_of, Begins, Valid, start, closure, move, InCore, SameCore, HasCore, Look, Spreads}
 use Rattle.cfg_model.specs.Cores.{CoreList, IsCore, IsCores, FirstMet, Before, Rising, none as no_moves, one as one_move, more as and_moves, targets, HasMoreCores}
-use Rattle.cfg_model.specs.LalrConflicts.{Completes, Shifts, LalrConflict, LalrReport}
+use Rattle.cfg_model.specs.LalrConflicts.{Completes, LalrConflict, LalrReport}
 use Rattle.cfg_model.proofs.LooksSpread.{same_self, same_back, valid_spreads}
 use Rattle.cfg_model.proofs.RuleZero.{zero_prefix}
 use Rattle.cfg_model.proofs.GrammarExamples.{as_rule, by_rules, stays}

@@ -1,11 +1,11 @@
 -- LL(1) tables and the conflict that is reported, each on a case where the nearest wrong reading differs.
-use Rattle.std.proofs.Common.{◌≡◌, ℕ, zero, suc, ◌<◌, ◌≤◌, ◌⊎◌, inl, inr, List, [], ◌∷◌, ◌++◌, refl, sym, ap, subst, true, Option, Some, None, length, arith}
+use Rattle.std.proofs.Common.{◌≡◌, ℕ, ◌≤◌, ◌⊎◌, inl, inr, List, [], ◌∷◌, ◌++◌, refl, sym, subst, true, Option, None, length, arith}
 use Rattle.cfg_model.specs.declared.symbol.Sym.{Sym}
 use Rattle.cfg_model.specs.declared.symbol.Sym.TheVariants.{T, N}
-use Rattle.cfg_model.specs.Cfg.{Cfg, Rule, IsRule}
+use Rattle.cfg_model.specs.Cfg.{Cfg, IsRule}
 use Rattle.cfg_model.specs.Steps.{step, Steps, none, more}
 use Rattle.cfg_model.specs.Derivation.{Forest, yield, Derive, token}
-use Rattle.cfg_model.specs.Sets.{Nullable, First, Reachable}
+use Rattle.cfg_model.specs.Sets.{Nullable, Reachable}
 use Rattle.cfg_model.specs.LlConflicts.{IsFor, Predicts, LlConflict, LlReport}
 use Rattle.cfg_model.specs.LlTables.{IsLl, IsPrediction, Falling, Falls, IsFalling, IsLlTable}
 use Rattle.cfg_model.proofs.Examples.{rights, for_end, hides, left, apart, Clean, clean_there, clean_after, clean_rule}

@@ -1,10 +1,9 @@
 -- The united lookaheads are the least relation on cores.
-use Rattle.std.proofs.Common.{◌≡◌, ℕ, suc, ◌↔◌, List, [], ◌∷◌, refl}
+use Rattle.std.proofs.Common.{ℕ, ◌↔◌, List, [], ◌∷◌, refl}
 use Rattle.cfg_model.specs.declared.symbol.Sym.{Sym}
-use Rattle.cfg_model.specs.declared.symbol.Sym.TheVariants.{T, N}
-use Rattle.cfg_model.specs.Cfg.{Cfg, IsRule, IsSymbol, IsGrammar}
-use Rattle.cfg_model.specs.Derivation.{Forest, empty, leaf, node, yield, Move, shift, reduce, postorder, Derive, nothing, token, rule, Derivation, IsSentence, IsViable}
-use Rattle.cfg_model.specs.Valid.{first_of, Begins, Valid, start, closure, move, InCore, SameCore, Look, Spreads}
+use Rattle.cfg_model.specs.declared.symbol.Sym.TheVariants.{N}
+use Rattle.cfg_model.specs.Cfg.{Cfg}
+use Rattle.cfg_model.specs.Valid.{first_of, Valid, start, closure, move, InCore, SameCore, Look, Spreads}
 
 pub same_self : (g : Cfg) (p : List Sym) → SameCore g p p
 same_self g p r d y = (λ h. h, λ h. h)

@@ -1,11 +1,10 @@
 -- What an LR table must answer on a small grammar: L = X M, M = X M, M = over one terminal, X.
-use Rattle.std.proofs.Common.{◌≡◌, ℕ, [], ◌∷◌, refl, subst, arith}
+use Rattle.std.proofs.Common.{◌≡◌, [], ◌∷◌, refl, subst, arith}
 use Rattle.cfg_model.specs.declared.symbol.Sym.TheVariants.{T, N}
 use Rattle.cfg_model.specs.declared.action.LrAction.TheVariants.{Error}
 use Rattle.cfg_model.specs.Cfg.{IsRule}
 use Rattle.cfg_model.specs.Steps.{none}
-use Rattle.cfg_model.specs.Valid.{Valid, start, closure, move, HasCore}
-use Rattle.cfg_model.specs.LalrConflicts.{Completes, Shifts}
+use Rattle.cfg_model.specs.Valid.{Valid, start, closure, move}
 use Rattle.cfg_model.specs.LrTables.{IsLrTable, IsAction, state_after}
 use Rattle.cfg_model.specs.Table.{Table}
 use Rattle.cfg_model.proofs.Examples.{rights}

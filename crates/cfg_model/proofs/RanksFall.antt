@@ -1,5 +1,5 @@
 -- Numbers that fall from a left side to what can stand first in its right side.
-use Rattle.std.proofs.Common.{◌≡◌, ℕ, zero, suc, ◌+◌, ◌-◌, ◌<◌, ◌≤◌, false, IsTrue, inl, inr, List, [], ◌∷◌, ◌++◌, length, All, refl, sym, ◌∙◌, append_assoc, arith, add-one, slice_index, ◌/◌, ◌%◌}
+use Rattle.std.proofs.Common.{◌≡◌, ℕ, ◌+◌, ◌-◌, ◌<◌, ◌≤◌, false, IsTrue, inl, inr, List, [], ◌∷◌, ◌++◌, length, All, refl, sym, ◌∙◌, append_assoc, arith, add-one, slice_index, ◌/◌, ◌%◌}
 use Rattle.std.proofs.lemmas.Option.{slice_get_within, get_or_from_slice_get}
 use Rattle.std.proofs.lemmas.List.Elements.{All-get_or}
 use Rattle.ck_base.specs.BitSet.{BitSet, Has}

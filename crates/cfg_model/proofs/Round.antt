@@ -1,11 +1,11 @@
 -- One round over the rules.
-use Rattle.std.proofs.Common.{◌≡◌, ℕ, ◌+◌, ◌<◌, ◌≤◌, inl, inr, Bool, true, false, IsTrue, List, ◌∷◌, length, drop, get_or, refl, ◌∙◌, arith, ◌↔◌, add-one, drop-cons, slice_get, Some}
+use Rattle.std.proofs.Common.{◌≡◌, ℕ, ◌+◌, ◌<◌, ◌≤◌, inl, inr, Bool, true, false, IsTrue, List, length, refl, ◌∙◌, arith, slice_get, Some}
 use Rattle.std.proofs.lemmas.Option.{slice_get_within}
 use Rattle.std.proofs.lemmas.Bool.{cases_eq}
 use Rattle.ck_base.specs.BitSet.{BitSet, Has, Grew}
 use Rattle.cfg_model.specs.declared.symbol.Sym.{Sym}
 use Rattle.cfg_model.specs.Cfg.{Cfg, Rule, IsRule}
-use Rattle.cfg_model.specs.within.Closing.{Passes, AllPass, IsSound, IsClosed, AreMakers, IsAdded}
+use Rattle.cfg_model.specs.within.Closing.{AllPass, IsSound, IsClosed, AreMakers, IsAdded}
 use Rattle.cfg_model.proofs.Makers.{makes_passing, makes_by_rule, has_maker}
 
 -- after the rules before place i: the set is sound and has grown, or no rule so far adds to it

@@ -1,7 +1,5 @@
 -- Rows of what leads to a number.
-use Rattle.std.proofs.Common.{◌≡◌, ℕ, ◌+◌, ◌<◌, ◌≤◌, inl, inr, false, List, length, ap, arith, slice_get, Some, None, Option}
-use Rattle.std.proofs.lemmas.Option.{slice_get_within}
-use Rattle.std.proofs.lemmas.Bool.{cases_eq}
+use Rattle.std.proofs.Common.{◌≡◌, ℕ, ◌<◌, false, List, slice_get, Some, None, Option}
 use Rattle.ck_base.specs.BitSet.{BitSet}
 use Rattle.cfg_model.specs.declared.symbol.Sym.{Sym}
 use Rattle.cfg_model.specs.declared.symbol.Sym.TheVariants.{N}
@@ -12,8 +10,8 @@ use Rattle.cfg_model.specs.within.Closing.{AreMakers}
 use Rattle.cfg_model.specs.Searches.{IsLeast}
 use Rattle.cfg_model.specs.Rows.{In, AreRows}
 use Rattle.cfg_model.specs.within.Spreading.{IsEdge, here}
-use Rattle.cfg_model.specs.within.Parts.{LeftPart, AreLeftParts, IsAddedAt, AreFirstEdges}
-use Rattle.cfg_model.specs.within.Runs.{AreLeftEdges, AreEdgeRows, AreRuns, AreMet}
+use Rattle.cfg_model.specs.within.Parts.{LeftPart, AreLeftParts, AreFirstEdges}
+use Rattle.cfg_model.specs.within.Runs.{AreLeftEdges, AreRuns, AreMet}
 use Rattle.cfg_model.proofs.FirstSets.{spread_on}
 use Rattle.cfg_model.proofs.LeftPaths.{recursive_of_row, row_of_recursive}
 

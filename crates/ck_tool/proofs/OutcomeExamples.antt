@@ -1,5 +1,5 @@
 -- The answer of a run, the names that it reads and how it ends, tried on cases that are worked by hand.
-use Rattle.std.proofs.Common.{◌≡◌, ◌⊎◌, inl, inr, ℕ, List, [], ◌∷◌, ◌++◌, length, Option, None, Some, codes, refl, arith, take, length-take, ap, sym, subst, ◌<◌, slice_get}
+use Rattle.std.proofs.Common.{◌≡◌, ◌⊎◌, inl, inr, ℕ, List, [], ◌∷◌, ◌++◌, length, Option, None, Some, codes, refl, arith, take, length-take, ap, sym, subst}
 use Rattle.std.specs.Fmt.{digits}
 use Rattle.ck_base.specs.Found.{HasNo}
 use Rattle.ck_base.specs.declared.fault.Kind.TheVariants.{Section}

@@ -1,5 +1,5 @@
 -- What functions and makers make of values.
-use Rattle.std.proofs.Common.{◌≡◌, ℕ, ℤ, ◌<◌, ◌+◌, ◌-◌, ◌*◌, ◌%◌, ◌^◌, ◌≤◌, ◌++◌, List, [], ◌∷◌, length, map, drop, take, set, get_or, Some, Bool, true, false, ◌&&◌, refl, sym, ap, ◌∙◌, subst, suc, zero, arith, rules, pos}
+use Rattle.std.proofs.Common.{◌≡◌, ℕ, ℤ, ◌<◌, ◌+◌, ◌-◌, ◌*◌, ◌%◌, ◌^◌, ◌≤◌, ◌++◌, List, [], ◌∷◌, length, map, drop, get_or, Some, Bool, true, false, ◌&&◌, refl, sym, ap, ◌∙◌, subst, suc, zero, arith, rules, pos}
 use Rattle.std.specs.Prelude.{slice_get, unwrap_or}
 use Rattle.std.specs.Prelude.{is_some}
 use Rattle.value_store.specs.Cells.{Cell, a_map, IsMap, AreMade, pairs_at, pairs_in, tree_in, tree_at, trees_at, MakesNode}

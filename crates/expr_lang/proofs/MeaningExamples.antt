@@ -10,11 +10,9 @@ use Rattle.value_store.specs.declared.text.Text.{Text}
 use Rattle.value_store.specs.declared.text.TextOf.TheVariants.{Source, Literal}
 use Rattle.value_store.specs.declared.unit.StoreUnit.{StoreUnit}
 use Rattle.value_store.specs.declared.unit.StoreUnit.TheVariants as unit
-use Rattle.value_store.specs.declared.value.Value.{Value}
 use Rattle.value_store.specs.declared.value.Value.TheVariants as value
 use Rattle.value_store.specs.declared.value.ValType.{ValType}
 use Rattle.value_store.specs.declared.value.ValType.TheVariants as ty
-use Rattle.expr_lang.specs.declared.expr.Expr.{Expr}
 use Rattle.expr_lang.specs.declared.expr.Expr.TheVariants as expr
 use Rattle.expr_lang.specs.declared.expr.Op.TheVariants as op
 use Rattle.expr_lang.specs.declared.expr.Function.TheVariants as function

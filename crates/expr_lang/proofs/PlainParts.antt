@@ -13,7 +13,7 @@ use Rattle.expr_lang.specs.Meaning.{meaning, expressions_of}
 use Rattle.expr_lang.specs.Expression.{Expression, var, negative, negated, binary, if_then, call}
 use Rattle.expr_lang.specs.Typing.{Context, HasType, a_number, a_truth, a_string, a_var, a_negative, a_negated, a_binary, an_if, a_call, a_make, IsPlain, plain_int, plain_bool, plain_text, Takes, or_takes, and_takes, equal_takes, differ_takes, less_takes, at_most_takes, greater_takes, at_least_takes, plus_takes, minus_takes, times_takes, quotient_takes, remainder_takes, takes, gives}
 use Rattle.expr_lang.specs.Units.{units_of, units_of_all}
-use Rattle.expr_lang.specs.ValueOf.{Tokens, value_of, values_of, applied, joined}
+use Rattle.expr_lang.specs.ValueOf.{Tokens, value_of, values_of, joined}
 use Rattle.expr_lang.specs.PureValues.{PureValue, nth, map_in}
 use Rattle.expr_lang.specs.Plain.{Plain, PlainReady, PlainHolds}
 use Rattle.expr_lang.proofs.OneType.{bin_inv, if_inv, call_inv, pick_type, neg_inv, not_inv}

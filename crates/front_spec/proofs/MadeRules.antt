@@ -1,17 +1,15 @@
 -- The scan rules that are made are those that the lines declare.
 use Rattle.std.proofs.Common.{◌≡◌, ℕ, zero, suc, ◌+◌, ◌≤◌, ◌⊎◌, inl, inr, Bool, true, false, ◌||◌, ◌==◌, List, [], ◌∷◌, ◌++◌, length, take, map, refl, sym, ap, ◌∙◌, Option, Some, None, arith, rules}
 use Rattle.std.specs.List.{slice_get}
-use Rattle.std.proofs.Math.Path.{fun_ext}
 use Rattle.std.proofs.lemmas.List.{map-append}
 use Rattle.std.proofs.lemmas.List.Folds.{list_any-append}
-use Rattle.ck_base.specs.BitSet.{BitSet, Has, IsEmpty, Adds}
+use Rattle.ck_base.specs.BitSet.{BitSet, Has}
 use Rattle.ck_base.specs.Numbered.{number_of, met}
 use Rattle.ck_base.proofs.NamesMet.{met-append, length-met}
 use Rattle.rex_model.specs.Language.{Re}
 use Rattle.rex_model.specs.Rules.{Rule}
-use Rattle.rex_model.specs.RuleMeaning.{contains, rule_of}
+use Rattle.rex_model.specs.RuleMeaning.{rule_of}
 use Rattle.rex_model.specs.declared.rules.ScanRule.{ScanRule}
-use Rattle.rex_model.proofs.MeantRules.{contains_has}
 use Rattle.spec_text.specs.Declares.{Declared}
 use Rattle.spec_text.proofs.Lists.{take_step, take_all}
 use Rattle.front_spec.specs.RexShapes.{SaidRule, Saying, state, rule}

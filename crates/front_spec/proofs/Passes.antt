@@ -1,5 +1,5 @@
 -- A pass over the lines of REX finds the first one with a fault of its kind.
-use Rattle.std.proofs.Common.{◌≡◌, ℕ, zero, suc, ◌+◌, ◌<◌, ◌≤◌, ◌⊎◌, inl, inr, ◌↔◌, IsTrue, Bool, true, false, List, [], ◌∷◌, ◌++◌, length, take, map, get_or, min, refl, sym, ap, ◌∙◌, Option, Some, None, Contains, codes, arith, rules, length-append}
+use Rattle.std.proofs.Common.{◌≡◌, ℕ, zero, suc, ◌+◌, ◌<◌, ◌≤◌, ◌⊎◌, inl, inr, ◌↔◌, IsTrue, Bool, true, false, List, [], ◌∷◌, ◌++◌, length, take, map, get_or, refl, sym, ap, ◌∙◌, Option, Some, None, Contains, codes, arith, length-append}
 use Rattle.std.specs.List.{slice_get}
 use Rattle.std.proofs.lemmas.List.{append-nil, length-map}
 use Rattle.ck_base.specs.declared.fault.Kind.TheVariants.{Limit, Twice, Unknown, Typing}
@@ -12,7 +12,7 @@ use Rattle.std.specs.Borrow.{Bor}
 use Rattle.spec_text.specs.Seen.{bytes_of}
 use Rattle.spec_text.proofs.Lists.{order, take_step, take_all, get_at, map_get}
 use Rattle.spec_text.proofs.Parting.{contains_at}
-use Rattle.spec_text.proofs.Frame.{NoneBefore, none_at_first, none_more, none_in_all, first_here}
+use Rattle.spec_text.proofs.Frame.{NoneBefore, none_more, none_in_all, first_here}
 use Rattle.spec_text.proofs.KindOrder.{before_twice, before_unknown, before_limit, accepted}
 use Rattle.front_spec.specs.RexShapes.{SaidRule, Saying, state, rule}
 use Rattle.front_spec.specs.RexFaults.{add_state, states_in, all_states, positions_of, all_positions, NamesState, active, next, RexFault, second_state, end_token, no_state, too_many_states, too_many_positions, rex}

@@ -11,7 +11,7 @@ use Rattle.spec_text.specs.Declares.{Declared, DeclareAll, HasAt, HasFault, Grow
 use Rattle.spec_text.specs.FirstFault.{Least, FirstFault, of_kind, Accepts}
 use Rattle.spec_text.specs.Sections.{SectionLines}
 use Rattle.spec_text.specs.Seen.{bytes_of}
-use Rattle.spec_text.proofs.Frame.{NoneBefore, none_at_first, none_more, none_in_all, first_here}
+use Rattle.spec_text.proofs.Frame.{NoneBefore, none_more, none_in_all, first_here}
 use Rattle.spec_text.proofs.KindOrder.{before_twice, before_unknown, before_limit, accepted}
 use Rattle.spec_text.proofs.Lists.{order, take_step, take_all, get_at, map_get}
 use Rattle.spec_text.proofs.Parting.{contains_at}

@@ -1,13 +1,13 @@
 -- How regular expressions are read, from the parts that they are made of.
 use Rattle.std.proofs.Common.{◌≡◌, ℕ, zero, suc, ◌-◌, ◌<◌, ◌≤◌, ◌⊎◌, inl, inr, max, List, [], ◌∷◌, ◌++◌, length, map, refl, sym, ap, ◌∙◌, codes, arith}
 use Rattle.std.proofs.lemmas.List.{map-append, length-map}
-use Rattle.rex_model.specs.Meaning.{meaning, sequence_of, alternative_of}
+use Rattle.rex_model.specs.Meaning.{meaning, sequence_of}
 use Rattle.rex_model.specs.declared.regex.Regex.{Regex}
 use Rattle.spec_text.specs.Seen.{seen}
 use Rattle.spec_text.specs.declared.view.Token.{Token}
 use Rattle.spec_text.specs.Lexemes.{Lexeme, text, class as byte_set, sign}
-use Rattle.spec_text.specs.Parts.{Part, Fixed, ListBy, Behind, Before, first as by_first, second as by_second, Anything, Reading, NoReading}
-use Rattle.front_spec.specs.Regexes.{Written, Leaf, a_string, a_class, a_dot, Sign, a_star, a_plus, a_question, glyph_of, with_sign, Signed, plain, signed, deepest, meaning_of, joined, row_of, choice_of, group, PieceOver, RowOver, AtomIn, RegexIn, NotSign, EndsRow, EndsRegex}
+use Rattle.spec_text.specs.Parts.{Part, Fixed, Behind, Before, first as by_first, second as by_second, Anything, Reading, NoReading}
+use Rattle.front_spec.specs.Regexes.{Written, Leaf, a_string, a_class, a_dot, Sign, a_star, a_plus, a_question, glyph_of, with_sign, Signed, plain, signed, deepest, meaning_of, joined, row_of, group, PieceOver, RowOver, AtomIn, RegexIn, NotSign, EndsRow, EndsRegex}
 use Rattle.spec_text.proofs.Readings.{behind, before, none_behind, none_before, not_behind, not_before, SomeSoFar, some_first, some_more, some_none, some_end, ListSoFar, list_first, list_more, list_none, list_none_first}
 
 -- two signs of one byte

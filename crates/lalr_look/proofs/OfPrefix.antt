@@ -1,5 +1,5 @@
 -- The kernel of a prefix gives its items, and they give the kernels of longer prefixes.
-use Rattle.std.proofs.Common.{◌≡◌, ◌≢◌, ℕ, zero, suc, ◌+◌, ◌<◌, ◌↔◌, ◌⊎◌, inl, inr, List, [], ◌∷◌, ◌++◌, length, refl, sym, ap, subst, subst₂, ◌∙◌, arith, slice_get, Some, Contains, drop}
+use Rattle.std.proofs.Common.{◌≡◌, ◌≢◌, ℕ, zero, suc, ◌+◌, ◌<◌, ◌↔◌, ◌⊎◌, inl, inr, List, [], ◌∷◌, ◌++◌, length, refl, sym, ap, subst, subst₂, arith, slice_get, Some, Contains, drop}
 use Rattle.std.proofs.lemmas.List.Elements.{Contains-append_left, Contains-append_right, Contains-append_cases}
 use Rattle.std.proofs.lemmas.Option.{slice_get_within}
 use Rattle.ck_base.specs.BitSet.{Has}
@@ -10,7 +10,7 @@ use Rattle.cfg_model.specs.Items.{Item, right_of}
 use Rattle.lalr_look.specs.Rising.{Climbs, ends, climbs}
 use Rattle.lalr_look.proofs.Ordered.{one_rising}
 use Rattle.lalr_look.proofs.Turns.{contained, placed}
-use Rattle.lalr_look.proofs.Items.{next_symbol, item_behind, small_rule, item_next, next_item, climbs_join, MoveFacts, move_facts, OpenFacts, open_facts}
+use Rattle.lalr_look.proofs.Items.{next_symbol, item_next, next_item, climbs_join, MoveFacts, move_facts, OpenFacts, open_facts}
 use Rattle.lalr_look.specs.Kernel.{code, NextIs, NextAt, HasItem, IsItems, IsKernel, Calls, self, on, CalledBy, Moves, IsOpened, place_of, callers, front_of}
 
 -- the item isn't one of a called rule: its dot is past the front, or it is that of rule 0

@@ -1,9 +1,6 @@
 -- Numbers in the order in which they are met; kernels as rising lists.
 use Rattle.std.proofs.Common.{◌≡◌, ℕ, zero, suc, ◌+◌, ◌<◌, ◌≤◌, ◌↔◌, ◌⊎◌, inl, inr, List, [], ◌∷◌, ◌++◌, refl, sym, ap, ap₂, subst, arith, Contains}
 use Rattle.std.proofs.lemmas.List.Elements.{Contains-append_left, Contains-append_right}
-use Rattle.cfg_model.specs.declared.symbol.Sym.{Sym}
-use Rattle.cfg_model.specs.Cfg.{Cfg}
-use Rattle.cfg_model.specs.Items.{Item}
 use Rattle.cfg_model.specs.Cores.{FirstMet}
 use Rattle.lalr_look.specs.Rising.{Met, Climbs, ends, climbs}
 

@@ -1,12 +1,9 @@
 -- Items sorted by the symbols behind their dots.
-use Rattle.std.proofs.Common.{◌≡◌, ◌≢◌, ℕ, ◌+◌, ◌/◌, ◌%◌, ◌<◌, ◌≤◌, ◌⊎◌, inl, inr, List, [], ◌∷◌, ◌++◌, length, refl, sym, ap, subst, ◌∙◌, arith, slice_get, Some, None, get_or}
+use Rattle.std.proofs.Common.{◌≡◌, ℕ, ◌+◌, ◌<◌, List, [], length, sym, subst, slice_get, Some, get_or}
 use Rattle.std.proofs.lemmas.Option.{slice_get-get_or}
-use Rattle.cfg_model.specs.declared.symbol.Sym.{Sym}
 use Rattle.cfg_model.specs.Cfg.{Cfg}
-use Rattle.cfg_model.specs.Items.{right_of}
-use Rattle.lalr_look.specs.Rows.{row_at, Pushes, Takes}
-use Rattle.lalr_look.specs.Kernel.{NextIs, SortsTo, Sorts, put, left, place_of, Moves}
-use Rattle.lalr_look.proofs.RowsChanged.{same_or_other}
+use Rattle.lalr_look.specs.Rows.{row_at}
+use Rattle.lalr_look.specs.Kernel.{SortsTo, Sorts, put, left, Moves}
 
 -- before the first item
 pub sorted_first : (g : Cfg) (items : List ℕ) (rows : List (List ℕ)) → ((k : ℕ) → row_at rows k ≡ []) → (i : ℕ) → Moves g items i 0 (row_at rows i)

@@ -5,7 +5,7 @@ use Rattle.std.proofs.lemmas.Option.{same_Some}
 use Rattle.cfg_model.specs.declared.symbol.Sym.{Sym}
 use Rattle.cfg_model.specs.declared.symbol.Sym.TheVariants.{T, N}
 use Rattle.lalr_look.proofs.Turns.{contained, placed}
-use Rattle.lalr_tables.specs.within.Rows.{free, of_shift, AreCells, NoRule, OverTerminal, OverNonterminal, PutsShift, PutsGoto, GotoIs, nowhere, leads, AreGotos}
+use Rattle.lalr_tables.specs.within.Rows.{of_shift, AreCells, NoRule, OverTerminal, OverNonterminal, PutsShift, PutsGoto, GotoIs, nowhere, leads, AreGotos}
 use Rattle.lalr_tables.proofs.Filling.{cell_same}
 
 -- one of the first moves is over the symbol to core m

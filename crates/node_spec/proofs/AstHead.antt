@@ -1,5 +1,5 @@
 -- The head of a section stands before its lines.
-use Rattle.std.proofs.Common.{◌≡◌, ℕ, zero, suc, ◌+◌, ◌-◌, ◌<◌, List, [], ◌∷◌, take, drop, length, get_or, refl, sym, ap, ◌∙◌, Some, Contains, arith}
+use Rattle.std.proofs.Common.{◌≡◌, ℕ, zero, suc, ◌+◌, ◌-◌, ◌<◌, List, [], ◌∷◌, take, drop, length, get_or, refl, Some, Contains, arith}
 use Rattle.std.specs.List.{slice_get}
 use Rattle.spec_text.specs.Declares.{Declared, DeclareAll, Notation, no_lines, one_line}
 use Rattle.spec_text.specs.Lines.{Line}

@@ -1,22 +1,20 @@
 -- The first line past a limit: families and types so far, and the items of a line's type.
-use Rattle.std.proofs.Common.{◌≡◌, ℕ, zero, suc, ◌+◌, ◌-◌, ◌<◌, ◌≤◌, ◌⊎◌, inl, inr, ◌||◌, Bool, true, false, cond, if◌then◌else◌, List, [], ◌∷◌, ◌++◌, length, take, map, get_or, refl, sym, ap, subst, ◌∙◌, Some, Contains, IsTrue, ◌↔◌, arith, codes}
+use Rattle.std.proofs.Common.{◌≡◌, ℕ, zero, suc, ◌+◌, ◌-◌, ◌<◌, ◌≤◌, ◌⊎◌, inl, inr, ◌||◌, Bool, true, false, if◌then◌else◌, List, [], ◌∷◌, length, take, map, get_or, refl, sym, ap, subst, ◌∙◌, Some, IsTrue, ◌↔◌, arith, codes}
 use Rattle.std.specs.List.{slice_get}
 use Rattle.std.specs.Str.{bytes_eq}
 use Rattle.std.proofs.lemmas.List.{length-map}
-use Rattle.std.proofs.lemmas.Slice.Eq.{bytes_eq-Decides}
 use Rattle.value_store.specs.declared.value.ValType.{ValType}
 use Rattle.value_store.specs.declared.value.ValType.TheVariants as ty
 use Rattle.ast_types.specs.Items.{child_families, child_then, field_then, field_types}
 use Rattle.ck_base.specs.declared.fault.Kind.TheVariants.{Limit}
-use Rattle.ck_base.proofs.NameFound.{contained_at, place_of}
 use Rattle.cfg_model.specs.declared.named.NamedGrammar.{NamedGrammar}
 use Rattle.spec_text.specs.Declares.{Declared, HasAt, Grow}
 use Rattle.spec_text.specs.FirstFault.{Least}
-use Rattle.spec_text.proofs.Frame.{NoneBefore, none_at_first, none_more, none_in_all, first_here}
+use Rattle.spec_text.proofs.Frame.{NoneBefore, none_at_first, none_more, first_here}
 use Rattle.spec_text.proofs.Lists.{map_get, get_at, take_all}
 use Rattle.node_spec.specs.AstShapes.{AstSaying, SaidItem, family, target, a_type, node, build}
-use Rattle.node_spec.specs.AstTables.{Row, families_in, family_names, family_number, item_of, item_type, rows_in}
-use Rattle.node_spec.specs.AstFaults.{AstFault, item_words, row_at, too_many_families, too_many_types, too_many_children, too_many_fields}
+use Rattle.node_spec.specs.AstTables.{Row, families_in, family_names, family_number, item_of, rows_in}
+use Rattle.node_spec.specs.AstFaults.{AstFault, row_at, too_many_families, too_many_types, too_many_children, too_many_fields}
 use Rattle.node_spec.specs.within.AstSeen.{declared_by, item_seen}
 use Rattle.node_spec.specs.within.AstWalks.{HasTooMany, IsPastLimit, child_said, families_said, item_word, row_number, types_said}
 use Rattle.node_spec.specs.declared.ast_line.AstLine.{AstLine}

@@ -1,10 +1,10 @@
 -- The families and types of the lines, one line more at a time.
-use Rattle.std.proofs.Common.{◌≡◌, ℕ, zero, suc, ◌+◌, ◌<◌, ◌≤◌, ◌⊎◌, inl, inr, Bool, true, false, List, [], ◌∷◌, ◌++◌, length, take, drop, map, refl, sym, ap, subst, ◌∙◌, Option, Some, None, All, Contains, arith, length-append, append_assoc}
+use Rattle.std.proofs.Common.{◌≡◌, ℕ, ◌+◌, List, [], ◌∷◌, ◌++◌, length, take, refl, ap, ◌∙◌, Some, arith, length-append}
 use Rattle.std.specs.List.{slice_get}
 use Rattle.spec_text.specs.Declares.{Declared}
-use Rattle.spec_text.proofs.Lists.{order, take_step, take_all, take_get, get_fits}
+use Rattle.spec_text.proofs.Lists.{take_step}
 use Rattle.node_spec.specs.AstShapes.{AstSaying, SaidItem, family, target, a_type, node, build}
-use Rattle.node_spec.specs.AstTables.{Row, families_in, family_names, family_then, row_after, row_in, row_names, row_of, rows_from, rows_in}
+use Rattle.node_spec.specs.AstTables.{Row, families_in, family_then, row_after, row_in, row_of, rows_in}
 use Rattle.node_spec.specs.AstFaults.{row_at}
 use Rattle.node_spec.specs.within.AstWalks.{families_said, types_said, row_number}
 use Rattle.node_spec.proofs.AstLists.{families_in-append, rows_in-step, row_of_line}

@@ -1,5 +1,5 @@
 -- The first line with an item or a nonterminal of the wrong side.
-use Rattle.std.proofs.Common.{◌≡◌, ℕ, zero, suc, ◌+◌, ◌<◌, ◌≤◌, ◌⊎◌, inl, inr, Bool, true, false, List, [], ◌∷◌, length, take, map, get_or, refl, sym, ap, subst, ◌∙◌, Some, None, unwrap_or, Contains, IsTrue, ◌↔◌, arith, codes}
+use Rattle.std.proofs.Common.{◌≡◌, ℕ, zero, suc, ◌+◌, ◌<◌, ◌≤◌, ◌⊎◌, inl, inr, Bool, false, List, [], ◌∷◌, length, take, map, get_or, refl, sym, ap, subst, ◌∙◌, Some, unwrap_or, arith}
 use Rattle.std.specs.List.{slice_get}
 use Rattle.std.proofs.lemmas.List.{length-map}
 use Rattle.ast_types.specs.TypeTable.{Family, family_at}
@@ -9,8 +9,8 @@ use Rattle.spec_text.proofs.Frame.{NoneBefore, none_at_first, none_more, first_h
 use Rattle.spec_text.proofs.Parting.{contains_at}
 use Rattle.spec_text.proofs.Lists.{order, map_get, get_at}
 use Rattle.node_spec.specs.AstShapes.{AstSaying, SaidItem, family, target, a_type, node, build}
-use Rattle.node_spec.specs.AstTables.{Row, families_in, family_names, family_number, rows_in}
-use Rattle.node_spec.specs.AstFaults.{is_target, item_words, row_at}
+use Rattle.node_spec.specs.AstTables.{Row, families_in, family_number, rows_in}
+use Rattle.node_spec.specs.AstFaults.{is_target, row_at}
 use Rattle.node_spec.specs.within.AstSeen.{item_seen}
 use Rattle.node_spec.specs.within.AstSteps.{AreFamilies, IsOfWrongSide, a_map, of_other_side, of_target}
 use Rattle.node_spec.specs.within.AstWalks.{HasWrongItem, IsWrongItem, IsWrongLine, row_number, target_of, types_said}

@@ -1,6 +1,6 @@
 -- The kinds of AST's faults are looked for one after the other; the section's head may be at fault of kind unknown
 -- and type.
-use Rattle.std.proofs.Common.{◌≡◌, ℕ, ◌+◌, ◌<◌, ◌≤◌, ◌⊎◌, inl, inr, List, refl, map, Some, None, Option, MatchOption, Result, IfErr, Bool, false, IsTrue, ◌↔◌, min, arith}
+use Rattle.std.proofs.Common.{◌≡◌, ℕ, ◌<◌, ◌≤◌, ◌⊎◌, inl, inr, List, refl, map, Some, None, Option, MatchOption, Result, IfErr, Bool, false, IsTrue, ◌↔◌, min, arith}
 use Rattle.std.specs.Result.{IsErrAnd}
 use Rattle.ck_base.specs.declared.fault.Kind.{Kind}
 use Rattle.ck_base.specs.declared.fault.Kind.TheVariants.{Limit, Twice, Unknown, Typing}

@@ -1,5 +1,5 @@
 -- The passes joined: each fault of kind twice.
-use Rattle.std.proofs.Common.{◌≡◌, ℕ, ◌<◌, ◌≤◌, ◌⊎◌, inl, inr, min, List, [], ◌∷◌, take, refl, sym, ap, ◌∙◌, subst, Option, Some, None, Contains, MatchOption, arith}
+use Rattle.std.proofs.Common.{◌≡◌, ℕ, inl, inr, List, [], ◌∷◌, take, refl, sym, ap, ◌∙◌, subst, Option, Some, None, Contains, MatchOption}
 use Rattle.ck_base.specs.Numbered.{AreApart}
 use Rattle.ck_base.specs.declared.fault.Kind.TheVariants.{Twice}
 use Rattle.cfg_model.specs.declared.named.NamedGrammar.{NamedGrammar}

@@ -1,17 +1,16 @@
 -- Places in lists; the first type of each name.
-use Rattle.std.proofs.Common.{◌≡◌, ℕ, zero, suc, ◌+◌, ◌<◌, ◌≤◌, Bool, true, false, cond, if◌then◌else◌, List, [], ◌∷◌, ◌++◌, length, take, drop, map, get_or, refl, sym, ap, ◌∙◌, Option, Some, None, is_some, arith, length-append}
+use Rattle.std.proofs.Common.{◌≡◌, ℕ, zero, suc, ◌+◌, ◌<◌, ◌≤◌, Bool, true, false, cond, if◌then◌else◌, List, [], ◌∷◌, ◌++◌, length, take, map, get_or, refl, sym, ap, ◌∙◌, Option, Some, None, is_some, arith, length-append}
 use Rattle.std.specs.List.{slice_get, position_from}
 use Rattle.std.specs.Str.{bytes_eq}
 use Rattle.std.proofs.lemmas.Iterator.Adapters.{position_from-zero}
-use Rattle.std.proofs.lemmas.List.{length-map, map-append, take-append-drop}
+use Rattle.std.proofs.lemmas.List.{length-map, map-append}
 use Rattle.std.proofs.lemmas.Slice.Eq.{bytes_eq-Decides}
 use Rattle.ck_base.specs.Numbered.{met, number_of}
 use Rattle.ck_base.proofs.NamesMet.{met_known, met_new, name_at_number, length-met}
 use Rattle.spec_text.specs.Declares.{Declared}
-use Rattle.spec_text.proofs.Lists.{take_step, take_all, get_at, get_fits, map_get}
+use Rattle.spec_text.proofs.Lists.{take_all, get_at, get_fits, map_get}
 use Rattle.node_spec.specs.AstShapes.{AstSaying, SaidItem, family, target, a_type, node, build}
-use Rattle.node_spec.specs.AstTables.{Row, row_after, row_names, row_of, row_over, rows_from, rows_in}
-use Rattle.node_spec.specs.AstFaults.{row_at}
+use Rattle.node_spec.specs.AstTables.{Row, row_after, row_names, row_of, row_over, rows_in}
 use Rattle.node_spec.specs.declared.ast_line.AstLine.{AstLine}
 use Rattle.node_spec.specs.declared.ast_line.ItemText.{ItemText}
 use Rattle.node_spec.specs.declared.rows.FirstRows.{FirstRows}

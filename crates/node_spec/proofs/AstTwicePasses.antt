@@ -10,10 +10,9 @@ use Rattle.spec_text.specs.FirstFault.{Least}
 use Rattle.spec_text.proofs.Frame.{NoneBefore, none_more, none_in_all, first_here}
 use Rattle.spec_text.proofs.Lists.{order, take_step, take_all, get_at, map_get}
 use Rattle.spec_text.proofs.Parting.{contains_at}
-use Rattle.node_spec.specs.AstShapes.{AstSaying, SaidItem, family, target, a_type, node, build}
-use Rattle.node_spec.specs.AstFaults.{IsTwice, of_family, of_target, of_type, reserved_words, row_at}
+use Rattle.node_spec.specs.AstShapes.{AstSaying, SaidItem, family, target, a_type}
+use Rattle.node_spec.specs.AstFaults.{of_family, of_target, of_type, reserved_words, row_at}
 use Rattle.node_spec.specs.AstTables.{Row, row_after, rows_in}
-use Rattle.node_spec.specs.Spoken.{Spoken}
 use Rattle.node_spec.specs.declared.again.Sort.{Sort}
 use Rattle.node_spec.specs.declared.rows.TypeRow.{TypeRow}
 use Rattle.node_spec.specs.within.AstSeen.{item_seen, row_seen}

@@ -1,11 +1,11 @@
 -- The table of types from the rows: each row's base is there, of its family, and gives its first items.
-use Rattle.std.proofs.Common.{◌≡◌, ℕ, zero, suc, ◌+◌, ◌^◌, ◌<◌, ◌≤◌, ◌⊎◌, inl, inr, Bool, true, false, cond, List, [], ◌∷◌, ◌++◌, length, take, drop, map, get_or, refl, sym, ap, subst, ◌∙◌, Option, Some, None, unwrap_or, All, Contains, arith, length-append}
+use Rattle.std.proofs.Common.{◌≡◌, ℕ, zero, suc, ◌+◌, ◌^◌, ◌<◌, ◌≤◌, ◌⊎◌, inl, inr, true, false, cond, List, [], ◌∷◌, ◌++◌, length, take, drop, map, get_or, refl, sym, ap, subst, ◌∙◌, Option, Some, None, All, Contains, arith, length-append}
 use Rattle.std.specs.List.{slice_get, position_from}
 use Rattle.std.specs.Str.{bytes_eq}
 use Rattle.std.proofs.lemmas.List.{length-map, append-nil, map-append, take-append-le, drop-map}
 use Rattle.std.proofs.lemmas.Slice.Eq.{bytes_eq-Decides}
 use Rattle.std.proofs.lemmas.Iterator.Adapters.{position_from-zero}
-use Rattle.ast_types.specs.TypeTable.{Family, NodeType, TypeTable, type_at, type_in, base_items, BaseFits, BaseIsThere}
+use Rattle.ast_types.specs.TypeTable.{Family, NodeType, TypeTable, type_at, type_in, base_items}
 use Rattle.ast_types.specs.declared.item.Item.{Item}
 use Rattle.ck_base.specs.Numbered.{number_of}
 use Rattle.ck_base.proofs.NameFound.{place_of}

@@ -1,5 +1,5 @@
 -- The passes over the lines for kind unknown, and the first of what they find.
-use Rattle.std.proofs.Common.{◌≡◌, ℕ, zero, suc, ◌+◌, ◌<◌, ◌≤◌, ◌⊎◌, inl, inr, min, List, [], ◌∷◌, length, take, map, get_or, refl, sym, ap, subst, ◌∙◌, Option, Some, None, Contains, MatchOption, arith}
+use Rattle.std.proofs.Common.{◌≡◌, ℕ, zero, suc, ◌+◌, ◌<◌, ◌≤◌, ◌⊎◌, inl, inr, List, [], ◌∷◌, length, take, map, get_or, refl, sym, ap, subst, ◌∙◌, Option, Some, None, Contains, MatchOption, arith}
 use Rattle.std.specs.List.{slice_get}
 use Rattle.std.proofs.lemmas.List.{length-map}
 use Rattle.ck_base.specs.Numbered.{met}

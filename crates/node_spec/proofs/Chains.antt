@@ -1,12 +1,11 @@
 -- How operands with operators between are read.
-use Rattle.std.proofs.Common.{◌≡◌, ℕ, suc, ◌+◌, ◌-◌, ◌<◌, ◌≤◌, max, List, [], ◌∷◌, codes, refl, sym, ap, ◌∙◌, arith}
+use Rattle.std.proofs.Common.{◌≡◌, ℕ, suc, ◌+◌, ◌-◌, ◌<◌, ◌≤◌, max, List, ◌∷◌, refl, sym, ap, ◌∙◌, arith}
 use Rattle.expr_lang.specs.declared.expr.Op.{Op}
 use Rattle.spec_text.specs.Lexemes.{Lexeme, sign}
 use Rattle.node_spec.specs.declared.prefix.Prefix.{Prefix}
 use Rattle.node_spec.specs.Spoken.{Spoken, binary, nesting}
-use Rattle.node_spec.specs.Notation.{glyph_of, precedence}
 use Rattle.node_spec.specs.within.Wholes.{prefix_glyph, with_prefix, NoOperator, NoPrefix, Whole, chained, prefixed, behind_prefix, no_prefix, Goes, ends, goes, IsOperator, IsRead, NoneRead}
-use Rattle.node_spec.proofs.WholeParts.{chain_at, goes_step, prefixed_at, prefix_parts, no_prefix_parts}
+use Rattle.node_spec.proofs.WholeParts.{chain_at, goes_step}
 use Rattle.node_spec.proofs.OneWhole.{one_whole}
 use Rattle.node_spec.proofs.Nesting.{grows, prefix_nesting}
 

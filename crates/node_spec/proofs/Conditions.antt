@@ -1,11 +1,11 @@
 -- How an `if` is read, and what stands in front of the operators.
-use Rattle.std.proofs.Common.{◌≡◌, ℕ, suc, ◌+◌, ◌-◌, ◌<◌, ◌≤◌, max, List, [], ◌∷◌, codes, refl, sym, ap, ◌∙◌, arith}
+use Rattle.std.proofs.Common.{◌≡◌, ℕ, ◌+◌, ◌-◌, ◌<◌, ◌≤◌, max, List, ◌∷◌, codes, refl, sym, ap, ◌∙◌, arith}
 use Rattle.spec_text.specs.Lexemes.{Lexeme, word}
 use Rattle.spec_text.specs.Parts.{Fixed, NotFirst, NoReading, Reading}
 use Rattle.node_spec.specs.Spoken.{Spoken, if_then, nesting}
 use Rattle.node_spec.specs.Notation.{IsSpoken, MayFollow}
 use Rattle.node_spec.specs.within.Wholes.{Whole, loosest, conditional, no_conditional, Conditional, IsRead, NoneRead}
-use Rattle.node_spec.proofs.WholeParts.{loosest_at, IfParts, if_parts, no_if_parts}
+use Rattle.node_spec.proofs.WholeParts.{IfParts, if_parts}
 use Rattle.node_spec.proofs.OneWhole.{one_whole}
 use Rattle.node_spec.proofs.ToWhole.{line_whole}
 use Rattle.node_spec.proofs.FromWhole.{from_whole}

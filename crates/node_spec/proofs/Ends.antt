@@ -1,11 +1,11 @@
 -- What follows an expression is an end of the tokens that begin with it.
-use Rattle.std.proofs.Common.{◌≡◌, ap, refl, sym, ◌∙◌, subst, arith, ℕ, suc, ◌+◌, ◌-◌, ◌≤◌, List, [], ◌∷◌, ◌++◌, length, take, drop, append_assoc, codes}
+use Rattle.std.proofs.Common.{◌≡◌, ap, refl, sym, ◌∙◌, arith, ℕ, suc, ◌-◌, ◌≤◌, List, [], ◌∷◌, ◌++◌, length, drop, append_assoc, codes}
 use Rattle.std.proofs.Math.Seq.{drop-append_seam}
 use Rattle.std.proofs.lemmas.List.{length-append}
 use Rattle.spec_text.specs.Lexemes.{Lexeme, word, sign}
 use Rattle.spec_text.specs.Lexemes as lex
 use Rattle.node_spec.specs.Spoken.{Spoken, SpokenList}
-use Rattle.node_spec.specs.Notation.{AtLevel, Arguments, Listed, IsSpoken, glyph_of, left_of, tighter, an_if, joined, a_negative, a_negated, a_number, a_truth, a_falsehood, a_string, a_name, a_dollar, a_pair, an_application, a_group, no_arguments, some_arguments, last, next}
+use Rattle.node_spec.specs.Notation.{AtLevel, Arguments, Listed, glyph_of, left_of, tighter, an_if, joined, a_negative, a_negated, a_number, a_truth, a_falsehood, a_string, a_name, a_dollar, a_pair, an_application, a_group, no_arguments, some_arguments, last, next}
 
 pub record IsEndOf (rest tokens : List Lexeme) : Type 0 where
   pub before : List Lexeme

@@ -1,5 +1,5 @@
 -- What may follow an expression of a line, by the next token.
-use Rattle.std.proofs.Common.{◌≡◌, ℕ, List, [], ◌∷◌, length, map, arith, Contains, codes, refl, sym, ap, ◌∙◌}
+use Rattle.std.proofs.Common.{◌≡◌, ℕ, List, [], ◌∷◌, length, map, arith, Contains, codes, sym}
 use Rattle.spec_text.specs.Seen.{seen}
 use Rattle.spec_text.specs.declared.view.Token.{Token}
 use Rattle.spec_text.specs.Lexemes.{Lexeme, word, sign}

@@ -1,10 +1,9 @@
 -- What is whole is said by its level.
-use Rattle.std.proofs.Common.{◌≡◌, ℕ, zero, suc, ◌+◌, ◌-◌, ◌<◌, ◌≤◌, ◌⊎◌, inl, inr, List, [], ◌∷◌, if◌then◌else◌, Bool, true, false, Option, Some, None, codes, refl, sym, ap, ◌∙◌, arith}
+use Rattle.std.proofs.Common.{◌≡◌, ℕ, suc, ◌⊎◌, inl, inr, List, [], ◌∷◌, if◌then◌else◌, Bool, true, false, Option, Some, None, codes, refl, sym, ap, ◌∙◌, arith}
 use Rattle.std.specs.Str.{bytes_eq}
 use Rattle.std.proofs.lemmas.Option.{same_Some}
 use Rattle.std.proofs.lemmas.Slice.Eq.{bytes_eq-Decides}
 use Rattle.expr_lang.specs.declared.expr.Op.{Op}
-use Rattle.expr_lang.specs.declared.expr.Op.TheVariants as op
 use Rattle.spec_text.specs.Lexemes as lex
 use Rattle.spec_text.specs.Lexemes.{Lexeme, word, sign}
 use Rattle.node_spec.specs.declared.prefix.Prefix.{Prefix}
@@ -13,7 +12,7 @@ use Rattle.node_spec.specs.Spoken.{Spoken, SpokenList, binary, and_spoken, truth
 use Rattle.node_spec.specs.Notation.{IsName, glyph_of, precedence, left_of, AtLevel, tighter, an_if, joined, a_negative, a_negated, a_number, a_truth, a_falsehood, a_string, a_name, a_dollar, a_pair, an_application, Arguments, no_arguments, some_arguments, Listed, last, next}
 use Rattle.node_spec.specs.Notation as notation
 use Rattle.node_spec.specs.within.Wholes.{leaf_of, dollar_of, with_prefix, prefix_glyph, NoOperator, Whole, loosest, chained, prefixed, primary, Loosest, conditional, no_conditional, Goes, ends, goes, Prefixed, behind_prefix, no_prefix, Primary, a_leaf, a_group, named, Named, alone, paired, called, Inside, none_inside, some_inside, Row, one, Others, closed, others}
-use Rattle.node_spec.proofs.ToWhole.{sides, not_three}
+use Rattle.node_spec.proofs.ToWhole.{sides}
 
 -- a leaf
 ended : Spoken → List Lexeme → Option (Spoken × List Lexeme)

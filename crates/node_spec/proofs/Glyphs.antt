@@ -1,5 +1,5 @@
 -- Operators and prefixes are told apart by how they are written.
-use Rattle.std.proofs.Common.{◌≡◌, ℕ, suc, ◌≤◌, List, [], ◌∷◌, if◌then◌else◌, Option, Some, None, codes, refl, sym, ap, ◌∙◌, arith}
+use Rattle.std.proofs.Common.{◌≡◌, ℕ, ◌≤◌, List, ◌∷◌, if◌then◌else◌, codes, refl, sym, ap, ◌∙◌, arith}
 use Rattle.std.specs.Str.{bytes_eq}
 use Rattle.expr_lang.specs.declared.expr.Op.{Op}
 use Rattle.expr_lang.specs.declared.expr.Op.TheVariants as op

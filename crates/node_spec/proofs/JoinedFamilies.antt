@@ -1,26 +1,22 @@
 -- Rules without a BUILD line: which labels have one, and whether a rule's one nonterminal is of another family.
-use Rattle.std.proofs.Common.{◌≡◌, ℕ, zero, suc, ◌+◌, ◌<◌, ◌≤◌, ◌⊎◌, inl, inr, ◌↔◌, Bool, true, false, cond, if◌then◌else◌, IsTrue, List, [], ◌∷◌, ◌++◌, length, take, map, get_or, refl, sym, ap, subst, ◌∙◌, Option, Some, None, IsNone, is_some, Contains, arith}
+use Rattle.std.proofs.Common.{◌≡◌, ℕ, zero, suc, ◌+◌, ◌<◌, ◌≤◌, ◌⊎◌, inl, inr, ◌↔◌, Bool, true, false, if◌then◌else◌, IsTrue, List, [], ◌∷◌, ◌++◌, length, take, refl, sym, ap, subst, ◌∙◌, Option, Some, None, is_some, Contains, arith}
 use Rattle.std.specs.List.{slice_get, slice_index}
 use Rattle.std.specs.Str.{bytes_eq}
-use Rattle.std.proofs.lemmas.List.{length-map}
 use Rattle.std.proofs.lemmas.List.Elements.{Contains-append_cases}
 use Rattle.std.proofs.lemmas.Option.{none-some}
 use Rattle.std.proofs.lemmas.Slice.Eq.{bytes_eq-Decides}
 use Rattle.cfg_model.specs.Cfg.{Rule}
 use Rattle.cfg_model.specs.declared.named.NamedGrammar.{NamedGrammar}
-use Rattle.cfg_model.specs.declared.symbol.Sym.TheVariants.{N}
-use Rattle.ck_base.specs.Numbered.{AreApart, met, number_of}
+use Rattle.ck_base.specs.Numbered.{met, number_of}
 use Rattle.ck_base.specs.declared.fault.Kind.{Kind}
-use Rattle.ck_base.specs.declared.fault.Kind.TheVariants.{Typing, Unknown}
-use Rattle.ck_base.proofs.NameFound.{contained_at, place_of}
-use Rattle.ck_base.proofs.NamesMet.{length-met, met-append, met_has_number, name_at_number, none_where_absent, number_at_place}
+use Rattle.ck_base.specs.declared.fault.Kind.TheVariants.{Typing}
+use Rattle.ck_base.proofs.NameFound.{place_of}
+use Rattle.ck_base.proofs.NamesMet.{length-met, met-append, met_has_number, name_at_number, none_where_absent}
 use Rattle.spec_text.specs.Declares.{Declared}
 use Rattle.spec_text.proofs.Lists.{order, take_step, take_all, get_fits}
-use Rattle.node_spec.specs.Spoken.{Spoken}
-use Rattle.node_spec.specs.AstShapes.{AstSaying, SaidItem, family, target, a_type, node, build}
+use Rattle.node_spec.specs.AstShapes.{AstSaying, family, target, a_type, node, build}
 use Rattle.node_spec.specs.AstTables.{build_line, build_or, families_by}
-use Rattle.node_spec.specs.AstBuilds.{only_nonterminal}
-use Rattle.node_spec.specs.AstFaults.{AstHeadFault, IsRuleOf, label_then, labels_in, other_family, no_node, no_source_node, no_build}
+use Rattle.node_spec.specs.AstFaults.{AstHeadFault, label_then, labels_in, other_family, no_node, no_source_node, no_build}
 use Rattle.node_spec.specs.within.AstWalks.{IsOfOther, JoinsAt, SomeJoins, some_rule, no_rule_joins}
 use Rattle.node_spec.proofs.AstTypeTable.{found_there}
 

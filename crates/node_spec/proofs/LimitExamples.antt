@@ -1,5 +1,5 @@
 -- Tried cases of limits: the items of a base count, and the 129th family is past the limit.
-use Rattle.std.proofs.Common.{◌≡◌, ℕ, zero, suc, ◌+◌, ◌<◌, ◌≤◌, List, [], ◌∷◌, ◌++◌, length, take, map, refl, ap, ◌∙◌, arith, codes}
+use Rattle.std.proofs.Common.{◌≡◌, ℕ, zero, suc, ◌+◌, ◌<◌, ◌≤◌, List, [], ◌∷◌, length, take, map, refl, ap, arith, codes}
 use Rattle.ast_types.specs.Items.{field_types}
 use Rattle.ck_base.specs.declared.fault.Kind.TheVariants.{Limit}
 use Rattle.cfg_model.specs.declared.named.NamedGrammar.{NamedGrammar}

@@ -1,14 +1,13 @@
 -- How deep expressions are, and that what is read is shorter than what it was read from.
-use Rattle.std.proofs.Common.{◌≡◌, ℕ, suc, ◌+◌, ◌<◌, ◌≤◌, max, List, [], ◌∷◌, length, codes, refl, ap, arith}
-use Rattle.expr_lang.specs.declared.expr.Op.{Op}
+use Rattle.std.proofs.Common.{◌≡◌, ℕ, suc, ◌+◌, ◌<◌, ◌≤◌, max, List, ◌∷◌, length, codes, refl, ap, arith}
 use Rattle.spec_text.specs.Lexemes as lex
 use Rattle.spec_text.specs.Lexemes.{Lexeme, word, sign}
 use Rattle.spec_text.specs.Parts.{Part}
 use Rattle.node_spec.specs.declared.prefix.Prefix.{Prefix}
 use Rattle.node_spec.specs.declared.prefix.Prefix.TheVariants as prefix
-use Rattle.node_spec.specs.Spoken.{Spoken, SpokenList, number, truth, string, name, dollar, pair, negative, negated, binary, if_then, applied, grouped, nesting, deepest}
-use Rattle.node_spec.specs.Notation.{IsName, glyph_of, precedence, left_of, AtLevel, tighter, an_if, joined, a_negative, a_negated, a_number, a_truth, a_falsehood, a_string, a_name, a_dollar, a_pair, an_application, a_group, Arguments, no_arguments, some_arguments, Listed, last, next}
-use Rattle.node_spec.specs.within.Wholes.{with_prefix, NoOperator, Whole, Goes, ends, goes, NoneRead}
+use Rattle.node_spec.specs.Spoken.{Spoken, SpokenList, number, truth, string, name, dollar, pair, negative, negated, binary, if_then, applied, grouped, nesting}
+use Rattle.node_spec.specs.Notation.{glyph_of, left_of, AtLevel, tighter, an_if, joined, a_negative, a_negated, a_number, a_truth, a_falsehood, a_string, a_name, a_dollar, a_pair, an_application, a_group, Arguments, no_arguments, some_arguments, Listed, last, next}
+use Rattle.node_spec.specs.within.Wholes.{with_prefix, Whole, Goes, ends, goes, NoneRead}
 use Rattle.node_spec.proofs.FromWhole.{from_whole}
 
 -- there is some nesting

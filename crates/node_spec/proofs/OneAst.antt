@@ -4,7 +4,6 @@ use Rattle.ck_base.specs.Found.{HasNo}
 use Rattle.ck_base.specs.declared.fault.Kind.{Kind}
 use Rattle.cfg_model.specs.declared.named.NamedGrammar.{NamedGrammar}
 use Rattle.spec_text.specs.FirstFault.{FirstFault, Accepts, ExactlyOne}
-use Rattle.spec_text.specs.Lexemes.{Lexeme}
 use Rattle.spec_text.specs.Promise.{HasSection}
 use Rattle.spec_text.specs.Sections.{SectionLines}
 use Rattle.spec_text.specs.declared.section.Section.TheVariants.{Ast}

@@ -1,13 +1,10 @@
 -- Tokens begin with one whole expression of a level at most.
-use Rattle.std.proofs.Common.{◌≡◌, ℕ, suc, ◌≤◌, List, [], ◌∷◌, Some, codes, refl, sym, ap, ap₂, ◌∙◌}
-use Rattle.expr_lang.specs.declared.expr.Op.{Op}
+use Rattle.std.proofs.Common.{◌≡◌, ℕ, suc, List, ◌∷◌, codes, sym, ap, ap₂, ◌∙◌}
 use Rattle.spec_text.specs.Lexemes.{Lexeme, word, sign}
-use Rattle.spec_text.specs.Parts.{NotFirst}
-use Rattle.node_spec.specs.Spoken.{Spoken, SpokenList, name, pair, binary, if_then, applied, grouped, no_spoken, and_spoken}
-use Rattle.node_spec.specs.Notation.{IsName, glyph_of, precedence}
-use Rattle.node_spec.specs.within.Wholes.{leaf_of, prefix_glyph, with_prefix, NoOperator, NoPrefix, Whole, loosest, chained, prefixed, primary, Loosest, conditional, no_conditional, Goes, ends, goes, Prefixed, behind_prefix, no_prefix, Primary, a_leaf, a_group, named, Named, alone, paired, called, Inside, none_inside, some_inside, Row, one, Others, closed, others}
+use Rattle.node_spec.specs.Spoken.{Spoken, SpokenList, pair, binary, if_then, applied, grouped, and_spoken}
+use Rattle.node_spec.specs.within.Wholes.{with_prefix, Whole, loosest, chained, prefixed, primary, Loosest, conditional, no_conditional, Goes, ends, goes, Prefixed, behind_prefix, no_prefix, Primary, a_leaf, a_group, named, Named, alone, paired, called, Inside, none_inside, some_inside, Row, one, Others, closed, others}
 use Rattle.node_spec.proofs.Glyphs.{same_rest}
-use Rattle.node_spec.proofs.WholeParts.{Same, SameList, loosest_at, prefixed_at, primary_at, Chain, chain_at, IfParts, if_parts, no_if_parts, goes_end, Step, goes_step, PrefixParts, prefix_parts, no_prefix_parts, leaf_parts, GroupParts, group_parts, named_parts, alone_parts, PairParts, pair_parts, CallParts, call_parts, none_parts, some_parts, RowParts, row_parts, closed_parts, others_parts}
+use Rattle.node_spec.proofs.WholeParts.{Same, SameList, loosest_at, prefixed_at, primary_at, chain_at, if_parts, no_if_parts, goes_end, goes_step, prefix_parts, no_prefix_parts, leaf_parts, group_parts, named_parts, alone_parts, pair_parts, call_parts, none_parts, some_parts, row_parts, closed_parts, others_parts}
 
 -- the same parts make the same whole
 same_if : (c c2 a a2 b b2 f : Spoken) → c ≡ c2 → a ≡ a2 → b ≡ b2 → f ≡ if_then c2 a2 b2 → if_then c a b ≡ f

@@ -1,13 +1,13 @@
 -- How arguments are read.
-use Rattle.std.proofs.Common.{◌≡◌, ℕ, suc, ◌+◌, ◌-◌, ◌<◌, ◌≤◌, max, List, [], ◌∷◌, ◌++◌, map, codes, refl, sym, ap, ◌∙◌, arith}
+use Rattle.std.proofs.Common.{◌≡◌, ℕ, ◌-◌, ◌<◌, max, List, [], ◌∷◌, ◌++◌, map, codes, refl, sym, ap, ◌∙◌, arith}
 use Rattle.std.proofs.lemmas.List.{map-append}
 use Rattle.spec_text.specs.Lexemes.{Lexeme, sign}
-use Rattle.spec_text.specs.Parts.{Fixed, NotFirst}
+use Rattle.spec_text.specs.Parts.{Fixed}
 use Rattle.node_spec.specs.Spoken.{Spoken, SpokenList, no_spoken, and_spoken, nesting, deepest}
 use Rattle.node_spec.specs.declared.written.Written.{Written}
 use Rattle.node_spec.specs.within.Writing.{spoken_list, spoken_of}
 use Rattle.node_spec.specs.within.Wholes.{Whole, Inside, none_inside, some_inside, Row, one, Others, closed, others, IsRead, NoneRead, AreRead, NoneAre}
-use Rattle.node_spec.proofs.WholeParts.{none_parts, some_parts, row_parts, closed_parts, others_parts}
+use Rattle.node_spec.proofs.WholeParts.{row_parts, others_parts}
 use Rattle.node_spec.proofs.OneWhole.{one_whole}
 
 -- none, or a row of them

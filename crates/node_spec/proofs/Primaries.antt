@@ -1,11 +1,11 @@
 -- How expressions without operators are read.
-use Rattle.std.proofs.Common.{◌≡◌, ℕ, suc, ◌+◌, ◌-◌, ◌<◌, ◌≤◌, List, [], ◌∷◌, Some, None, codes, refl, sym, ap, ◌∙◌, arith}
-use Rattle.spec_text.specs.Lexemes.{Lexeme, word, sign}
-use Rattle.spec_text.specs.Parts.{Fixed, Name, NotFirst}
+use Rattle.std.proofs.Common.{◌≡◌, ℕ, ◌+◌, ◌-◌, ◌<◌, List, ◌∷◌, Some, codes, refl, sym, ap, arith}
+use Rattle.spec_text.specs.Lexemes.{Lexeme, sign}
+use Rattle.spec_text.specs.Parts.{Fixed, Name}
 use Rattle.node_spec.specs.Spoken.{Spoken, SpokenList, applied, grouped, nesting, deepest}
 use Rattle.node_spec.specs.Notation.{IsName}
-use Rattle.node_spec.specs.within.Wholes.{leaf_of, Whole, primary, Primary, a_leaf, a_group, named, Named, called, Inside, Grouping, IsRead, NoneRead, AreRead, NoneAre}
-use Rattle.node_spec.proofs.WholeParts.{primary_at, leaf_parts, group_parts, named_parts, call_parts, word_no_sign}
+use Rattle.node_spec.specs.within.Wholes.{leaf_of, Whole, primary, a_leaf, a_group, named, Named, called, Inside, Grouping, IsRead, NoneRead, AreRead}
+use Rattle.node_spec.proofs.WholeParts.{primary_at, group_parts, named_parts}
 use Rattle.node_spec.proofs.OneWhole.{one_whole}
 
 pub leaf_read : (left : ℕ) (tokens rest : List Lexeme) (e : Spoken) → leaf_of tokens ≡ Some (e, rest) → nesting e ≡ 1 → (left ≡ 0 → ⊥) → IsRead (Whole 7) left tokens e 1 rest

@@ -1,12 +1,12 @@
 -- What each form of the program's expressions says.
-use Rattle.std.proofs.Common.{◌≡◌, ℕ, Bool, List, map, Bor, sym, ap, ◌∙◌}
+use Rattle.std.proofs.Common.{◌≡◌, ℕ, List, map, Bor, sym, ap, ◌∙◌}
 use Rattle.expr_lang.specs.declared.expr.Op.{Op}
-use Rattle.node_spec.specs.Spoken.{Spoken, number, truth, string, name, dollar, pair, negative, negated, binary, if_then, applied, grouped}
+use Rattle.node_spec.specs.Spoken.{Spoken, number, name, pair, negative, negated, binary, if_then, applied, grouped}
 use Rattle.node_spec.specs.within.Writing.{spoken_of, node_spoken, spoken_list}
 use Rattle.node_spec.specs.declared.written.Written.{Written}
 use Rattle.node_spec.specs.declared.written.Written.TheOpen.{Written-F}
 use Rattle.node_spec.specs.declared.written.Written.TheFolds.{fold-roll-Written}
-use Rattle.node_spec.specs.declared.written.Written.TheVariants.{Number, Truth, Text, Name, Dollar, Pair, Negative, Negated, Binary, If, Applied, Grouped, rolls-Number, rolls-Truth, rolls-Text, rolls-Name, rolls-Dollar, rolls-Pair, rolls-Negative, rolls-Negated, rolls-Binary, rolls-If, rolls-Applied, rolls-Grouped}
+use Rattle.node_spec.specs.declared.written.Written.TheVariants.{Number, Name, Pair, Negative, Negated, Binary, If, Applied, Grouped, rolls-Number, rolls-Name, rolls-Pair, rolls-Negative, rolls-Negated, rolls-Binary, rolls-If, rolls-Applied, rolls-Grouped}
 
 pub says-Number : (n : ℕ) → spoken_of (Number n) ≡ number n
 says-Number n = ap spoken_of (sym (rolls-Number n)) ∙ fold-roll-Written Spoken node_spoken (Written-F.Number n)

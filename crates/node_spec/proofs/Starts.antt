@@ -1,5 +1,5 @@
 -- What an expression of a level may begin with, and what may follow it.
-use Rattle.std.proofs.Common.{◌≡◌, ℕ, zero, suc, ◌+◌, ◌-◌, ◌<◌, ◌≤◌, List, [], ◌∷◌, if◌then◌else◌, codes, Contains, refl, sym, ap, ◌∙◌, arith}
+use Rattle.std.proofs.Common.{◌≡◌, ℕ, suc, ◌-◌, ◌<◌, ◌≤◌, List, [], ◌∷◌, if◌then◌else◌, codes, refl, sym, arith}
 use Rattle.std.specs.Str.{bytes_eq}
 use Rattle.expr_lang.specs.declared.expr.Op.{Op}
 use Rattle.expr_lang.specs.declared.expr.Op.TheVariants as op

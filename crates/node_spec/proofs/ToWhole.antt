@@ -1,18 +1,16 @@
 -- What a level says and nothing goes on with is whole.
-use Rattle.std.proofs.Common.{◌≡◌, ℕ, zero, suc, ◌+◌, ◌-◌, ◌<◌, ◌≤◌, ◌⊎◌, inl, inr, List, [], ◌∷◌, Some, codes, refl, sym, ap, ◌∙◌, arith}
+use Rattle.std.proofs.Common.{◌≡◌, ℕ, zero, suc, ◌<◌, ◌≤◌, ◌⊎◌, inl, inr, List, ◌∷◌, codes, refl, sym, ◌∙◌, arith}
 use Rattle.expr_lang.specs.declared.expr.Op.{Op}
 use Rattle.expr_lang.specs.declared.expr.Op.TheVariants as op
-use Rattle.spec_text.specs.Lexemes as lex
 use Rattle.spec_text.specs.Lexemes.{Lexeme, word, sign}
-use Rattle.spec_text.specs.Parts.{NotFirst}
 use Rattle.node_spec.specs.declared.prefix.Prefix.TheVariants as prefix
-use Rattle.node_spec.specs.Spoken.{Spoken, SpokenList, binary, and_spoken}
+use Rattle.node_spec.specs.Spoken.{Spoken, SpokenList, binary}
 use Rattle.node_spec.specs.Notation.{IsName, glyph_of, precedence, left_of, AtLevel, tighter, an_if, joined, a_negative, a_negated, a_number, a_truth, a_falsehood, a_string, a_name, a_dollar, a_pair, an_application, Arguments, no_arguments, some_arguments, Listed, last, next, MayFollow}
 use Rattle.node_spec.specs.Notation as notation
-use Rattle.node_spec.specs.within.Wholes.{NoOperator, NoPrefix, Whole, loosest, chained, prefixed, primary, conditional, no_conditional, Goes, ends, goes, behind_prefix, no_prefix, Primary, a_leaf, a_group, named, alone, paired, called, Inside, none_inside, some_inside, Row, one, Others, closed, others}
+use Rattle.node_spec.specs.within.Wholes.{NoOperator, Whole, loosest, chained, prefixed, primary, conditional, no_conditional, Goes, ends, goes, behind_prefix, no_prefix, Primary, a_leaf, a_group, named, alone, paired, called, Inside, none_inside, some_inside, Row, one, closed, others}
 use Rattle.node_spec.proofs.Glyphs.{precedences}
 use Rattle.node_spec.proofs.WholeParts.{goes_end}
-use Rattle.node_spec.proofs.Starts.{level_most, no_if, no_prefix_first, no_close, bond, Stops, bond_is, no_operator, no_dot, no_opening, stops_line}
+use Rattle.node_spec.proofs.Starts.{level_most, no_if, no_prefix_first, no_close, bond, bond_is, no_operator, no_dot, no_opening, stops_line}
 
 -- where the levels stand
 data Place (p : ℕ) : Type 0 where

@@ -1,18 +1,17 @@
 -- What a whole expression is made of, by the tokens that are next.
-use Rattle.std.proofs.Common.{◌≡◌, ℕ, suc, ◌≤◌, List, [], ◌∷◌, Bool, true, false, Option, Some, None, codes, refl, sym, ap, ◌∙◌, arith}
+use Rattle.std.proofs.Common.{◌≡◌, ℕ, suc, ◌≤◌, List, [], ◌∷◌, false, Some, None, codes, refl, sym, ap, ◌∙◌, arith}
 use Rattle.std.specs.Str.{bytes_eq}
 use Rattle.std.proofs.lemmas.Bool.{false_from_ne_true}
 use Rattle.std.proofs.lemmas.Option.{same_Some}
 use Rattle.std.proofs.lemmas.Slice.Eq.{bytes_eq-Decides}
 use Rattle.expr_lang.specs.declared.expr.Op.{Op}
-use Rattle.spec_text.specs.Lexemes as lex
 use Rattle.spec_text.specs.Lexemes.{Lexeme, word, sign}
 use Rattle.spec_text.specs.Parts.{NotFirst}
 use Rattle.node_spec.specs.declared.prefix.Prefix.{Prefix}
 use Rattle.node_spec.specs.Spoken.{Spoken, SpokenList, name, pair, binary, if_then, applied, grouped, no_spoken, and_spoken}
-use Rattle.node_spec.specs.Notation.{IsName, glyph_of, precedence, own_words}
+use Rattle.node_spec.specs.Notation.{IsName, glyph_of, precedence}
 use Rattle.node_spec.specs.within.Wholes.{leaf_of, prefix_glyph, with_prefix, NoOperator, NoPrefix, Whole, loosest, chained, prefixed, primary, Loosest, conditional, no_conditional, Goes, ends, goes, Prefixed, behind_prefix, no_prefix, Primary, a_leaf, a_group, named, Named, alone, paired, called, Inside, none_inside, some_inside, Row, one, Others, closed, others}
-use Rattle.node_spec.proofs.Glyphs.{same_sign, same_rest, one_glyph, one_prefix}
+use Rattle.node_spec.proofs.Glyphs.{same_rest, one_glyph, one_prefix}
 
 -- two ends of one shape
 abbrev pub Same : Spoken → Spoken → List Lexeme → List Lexeme → Type 0

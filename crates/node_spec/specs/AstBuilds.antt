@@ -1,8 +1,8 @@
 -- What each rule builds by the lines of AST.
-use Rattle.std.specs.Prelude.{ℕ, zero, suc, ◌+◌, List, [], ◌∷◌, ◌++◌, map, length, Option, Some, None, unwrap_or, if◌then◌else◌, slice_index}
+use Rattle.std.specs.Prelude.{ℕ, zero, suc, ◌+◌, List, [], ◌∷◌, ◌++◌, map, length, Option, Some, None, unwrap_or, if◌then◌else◌}
 use Rattle.ast_types.specs.TypeTable.{NodeType, TypeTable, family_at, type_at}
 use Rattle.expr_lang.specs.Expression.{Expression, var}
-use Rattle.cfg_model.specs.Cfg.{Cfg, Rule}
+use Rattle.cfg_model.specs.Cfg.{Rule}
 use Rattle.cfg_model.specs.declared.named.NamedGrammar.{NamedGrammar}
 use Rattle.cfg_model.specs.declared.symbol.Sym.{Sym}
 use Rattle.cfg_model.specs.declared.symbol.Sym.TheVariants.{T, N}

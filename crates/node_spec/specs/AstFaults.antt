@@ -1,9 +1,9 @@
 -- The faults of names, types and counts among the lines of AST.
-use Rattle.std.specs.Prelude.{◌≡◌, ℕ, ◌+◌, ◌<◌, Bool, true, false, List, [], ◌∷◌, length, map, take, Contains, Option, Some, None, codes, slice_get, slice_index}
+use Rattle.std.specs.Prelude.{◌≡◌, ℕ, ◌+◌, ◌<◌, Bool, true, List, [], ◌∷◌, length, map, take, Contains, Some, None, codes, slice_get, slice_index}
 use Rattle.ast_types.specs.Items.{child_families, field_types}
 use Rattle.ast_types.specs.TypeTable.{family_at}
 use Rattle.expr_lang.specs.Expression.{Expression}
-use Rattle.cfg_model.specs.Cfg.{Cfg, Rule}
+use Rattle.cfg_model.specs.Cfg.{Rule}
 use Rattle.cfg_model.specs.declared.named.NamedGrammar.{NamedGrammar}
 use Rattle.cfg_model.specs.declared.symbol.Sym.TheVariants.{N}
 use Rattle.ck_base.specs.Numbered.{number_of}
@@ -13,9 +13,9 @@ use Rattle.spec_text.specs.Declares.{Declared, Notation}
 use Rattle.node_spec.specs.Spoken.{Spoken}
 use Rattle.node_spec.specs.Resolving.{dollars_in, has_unknown, resolved}
 use Rattle.node_spec.specs.AstShapes.{AstSaying, SaidItem, AstShape, family, target, a_type, node, build}
-use Rattle.node_spec.specs.AstTables.{Row, families_in, family_names, family_number, rows_in, row_of, type_names, item_of, node_family, build_line, family_by}
+use Rattle.node_spec.specs.AstTables.{Row, families_in, family_names, family_number, rows_in, row_of, type_names, item_of, node_family, build_line}
 use Rattle.node_spec.specs.AstBuilds.{build_words, nodes_by, only_nonterminal}
-use Rattle.node_spec.specs.Nodes.{Nodes, Builds}
+use Rattle.node_spec.specs.Nodes.{Builds}
 
 -- the words that no family, type or item may be called by
 abbrev pub reserved_words : List (List ℕ)

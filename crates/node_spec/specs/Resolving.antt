@@ -1,12 +1,11 @@
 -- What the names of an expression stand for, and what the expression means.
-use Rattle.std.specs.Prelude.{◌≡◌, ℕ, ◌+◌, pos, Bool, false, ◌||◌, not, List, [], ◌∷◌, ◌++◌, Option, Some, None, is_some, codes, if◌then◌else◌, decimal, slice_index}
+use Rattle.std.specs.Prelude.{◌≡◌, ℕ, pos, Bool, false, ◌||◌, not, List, [], ◌∷◌, ◌++◌, Option, Some, None, is_some, codes, if◌then◌else◌, decimal, slice_index}
 use Rattle.std.specs.Str.{bytes_eq}
 use Rattle.value_store.specs.declared.value.ValType.{ValType}
 use Rattle.ck_base.specs.Numbered.{number_of}
 use Rattle.expr_lang.specs.Expression.{Expression, Expressions, no_expressions, and_expression}
 use Rattle.expr_lang.specs.Expression as ex
 use Rattle.expr_lang.specs.Typing.{Context, HasType}
-use Rattle.expr_lang.specs.declared.expr.Op.{Op}
 use Rattle.expr_lang.specs.declared.expr.Function.{Function}
 use Rattle.expr_lang.specs.declared.expr.Function.TheVariants as function
 use Rattle.node_spec.specs.Spoken.{Spoken, SpokenList, number, truth, string, name, dollar, pair, negative, negated, binary, if_then, applied, grouped, no_spoken, and_spoken}

@@ -3,7 +3,7 @@ use Rattle.std.proofs.Common.{◌≡◌, ℕ, ◌<◌, ◌≤◌, ◌↔◌, Lis
 use Rattle.std.proofs.lemmas.Option.{slice_get-get_or}
 use Rattle.ck_base.specs.BitSet.{BitSet}
 use Rattle.ck_base.specs.Numbered.{AreNumbered}
-use Rattle.ck_base.proofs.Counting.{collect, not_more}
+use Rattle.ck_base.proofs.Counting.{collect}
 use Rattle.ck_base.proofs.SameWords.{same_words}
 use Rattle.rex_dfa.specs.within.Positions.{TakesAt, FollowsAt}
 use Rattle.rex_model.specs.Runs.{nowhere, moved}

@@ -4,7 +4,7 @@ use Rattle.std.proofs.lemmas.Bool.{cases_eq}
 use Rattle.std.proofs.lemmas.Option.{same_Some}
 use Rattle.std.specs.Int.{bit_at}
 use Rattle.std.proofs.lemmas.Nat.Bits.{bit_at-lt, bit_at_and, bit_at-zero}
-use Rattle.ck_base.specs.BitSet.{BitSet, Has, IsEmpty, Adds}
+use Rattle.ck_base.specs.BitSet.{BitSet, Has, Adds}
 use Rattle.ck_base.specs.Words.{IsFit}
 use Rattle.ck_base.proofs.OrJoinsBits.{one_of_bit, bit_of_one}
 use Rattle.rex_dfa.specs.within.Positions.{set_with, TakesAt, FollowsAt, NextOf, AreTakers, Joining, IsSameTaken}

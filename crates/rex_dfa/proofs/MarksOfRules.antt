@@ -1,14 +1,12 @@
 -- End marks of rules, one after the other.
-use Rattle.std.proofs.Common.{◌≡◌, ℕ, zero, suc, ◌+◌, ◌-◌, ◌<◌, ◌≤◌, ◌↔◌, List, [], ◌∷◌, ◌++◌, length, get_or, Option, Some, None, slice_get, arith, refl, sym, subst, ◌∙◌, inl, inr, append_assoc, length-append}
+use Rattle.std.proofs.Common.{◌≡◌, ℕ, zero, suc, ◌+◌, ◌<◌, ◌≤◌, ◌↔◌, List, [], ◌∷◌, ◌++◌, length, get_or, Some, None, slice_get, arith, refl, sym, subst, ◌∙◌, inl, inr}
 use Rattle.std.proofs.lemmas.Bool.{cases_eq, cases_lt}
-use Rattle.std.proofs.lemmas.List.{get_or_append_left}
 use Rattle.std.proofs.lemmas.Option.{none-some, same_Some, slice_get_within, slice_get-get_or}
-use Rattle.std.proofs.Math.Seq.{get_or-append_seam}
 use Rattle.ck_base.specs.BitSet.{BitSet, Has}
 use Rattle.rex_model.specs.Positions.{position_count}
 use Rattle.rex_model.specs.Sets.{marked, marked_rules, body_and_context}
 use Rattle.rex_model.specs.Rules.{Rule}
-use Rattle.rex_dfa.specs.within.Marks.{IsMark, AreMarks, IsLeast, HasMark, MarksSets}
+use Rattle.rex_dfa.specs.within.Marks.{IsMark, AreMarks, IsLeast, HasMark}
 
 -- the list has the marks, by number
 pub mark_at : (rules : List Rule) (k : ℕ) (marks : List ℕ) → AreMarks rules k marks → (i q : ℕ) → (slice_get marks i ≡ Some q) ↔ IsMark rules k i q

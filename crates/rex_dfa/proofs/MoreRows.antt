@@ -1,6 +1,5 @@
 -- One set more.
-use Rattle.std.proofs.Common.{◌≡◌, ℕ, ◌+◌, ◌⊎◌, ◌↔◌, List, [], ◌∷◌, ◌++◌, arith, refl, sym, subst, ◌∙◌, inl, inr, length-append}
-use Rattle.std.proofs.lemmas.Option.{none-some}
+use Rattle.std.proofs.Common.{◌≡◌, ℕ, ◌+◌, ◌⊎◌, ◌↔◌, List, [], ◌∷◌, ◌++◌, arith, sym, subst, ◌∙◌, inl, inr, length-append}
 use Rattle.ck_base.specs.BitSet.{BitSet, Has, IsEmpty, Adds}
 use Rattle.ck_base.proofs.Counting.{element_of_longer}
 use Rattle.rex_dfa.specs.within.Rows.{AreRows}

@@ -1,8 +1,8 @@
 -- Rows of positions as a table of positions.
-use Rattle.std.proofs.Common.{◌≡◌, ℕ, ◌+◌, ◌<◌, ◌≤◌, ◌↔◌, Bool, List, [], length, get_or, slice_get, Some, All, IsTrue, true≢false, arith, refl, sym, subst, ap, ◌∙◌, inl, inr}
+use Rattle.std.proofs.Common.{◌≡◌, ℕ, ◌+◌, ◌<◌, ◌≤◌, ◌↔◌, Bool, List, [], length, get_or, slice_get, Some, All, IsTrue, true≢false, arith, sym, subst, ap, ◌∙◌, inl, inr}
 use Rattle.std.proofs.lemmas.Bool.{cases_eq}
 use Rattle.std.proofs.lemmas.Option.{slice_get-get_or, slice_get_within, get_or_from_slice_get, same_Some}
-use Rattle.ck_base.specs.BitSet.{BitSet, Has, IsEmpty, Adds}
+use Rattle.ck_base.specs.BitSet.{BitSet, Has, Adds}
 use Rattle.ck_base.proofs.Representing.{element_at}
 use Rattle.rex_model.specs.Language.{Re}
 use Rattle.rex_model.specs.Positions.{position_count, has_empty, Takes, First, Last, Follow}

@@ -1,6 +1,6 @@
 -- An automaton whose states stand for sets of positions: after a word it is in the state of the set
 -- that comes next.
-use Rattle.std.proofs.Common.{◌≡◌, ℕ, suc, ◌<◌, ◌≤◌, ◌↔◌, List, [], ◌∷◌, arith, refl}
+use Rattle.std.proofs.Common.{ℕ, suc, ◌<◌, ◌≤◌, ◌↔◌, List, [], ◌∷◌, arith, refl}
 use Rattle.rex_model.specs.Runs.{Automaton}
 use Rattle.rex_model.specs.Sets.{there, on, ComesNext}
 use Rattle.rex_dfa.specs.within.Subset.{Next, Stands, for_none, for_state}

@@ -3,13 +3,13 @@ use Rattle.std.proofs.Common.{◌≡◌, ℕ, zero, suc, ◌+◌, ◌*◌, ◌<�
 use Rattle.std.proofs.lemmas.Option.{none-some, same_Some}
 use Rattle.std.specs.Prelude.{codes}
 use Rattle.ck_base.proofs.Representing.{element_at}
-use Rattle.rex_model.specs.Language.{Re, bytes}
+use Rattle.rex_model.specs.Language.{bytes}
 use Rattle.rex_model.specs.Positions.{position_count}
 use Rattle.rex_model.specs.Rules.{Rule, Rules}
 use Rattle.rex_model.specs.Runs.{Automaton, nowhere, moved, accepted}
 use Rattle.rex_model.specs.ScanSets.{InScanSet, HasMoreScanSets, SplitWay, IsSplitWay, IsSameSplitSet, HasMoreSplitSets}
-use Rattle.rex_model.specs.Sets.{Goes, there, on, marked_rules, FirstOfActive, FirstBackwards, FollowBackwards, IsScanner}
-use Rattle.rex_model.specs.Tables.{Halves, split_of}
+use Rattle.rex_model.specs.Sets.{there, on, marked_rules, FirstOfActive, FirstBackwards, FollowBackwards, IsScanner}
+use Rattle.rex_model.specs.Tables.{split_of}
 
 -- "a" where "b" follows, in each state
 abbrev a_before_b : Rule

@@ -4,7 +4,7 @@ use Rattle.std.proofs.lemmas.Bool.{cases_eq}
 use Rattle.ck_base.specs.BitSet.{BitSet, Has, Adds}
 use Rattle.rex_model.specs.Language.{bytes}
 use Rattle.rex_model.specs.Positions.{TakesIn, Moves, Ends}
-use Rattle.rex_model.proofs.Adding.{Adding, adding_more, adding_same, adding_all}
+use Rattle.rex_model.proofs.Adding.{Adding, adding_more, adding_same}
 
 -- position p is the one of byte i, which is the byte taken
 pub record TakesAt (string : List ℕ) (k p byte i : ℕ) : Type 0 where

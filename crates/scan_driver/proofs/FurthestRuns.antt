@@ -1,9 +1,8 @@
 -- How far an automaton comes, and what it accepts there.
-use Rattle.std.proofs.Common.{◌≡◌, ◌≢◌, ℕ, ◌+◌, ◌*◌, ◌-◌, ◌<◌, List, ◌++◌, length, take, drop, get_or, slice_index, Some, None, arith, refl, sym, ap, subst, ◌∙◌, inl, inr}
-use Rattle.std.proofs.lemmas.Bool.{cases_lt, ne_eqb}
-use Rattle.std.proofs.lemmas.Option.{none-some}
+use Rattle.std.proofs.Common.{◌≡◌, ◌≢◌, ℕ, ◌+◌, ◌*◌, ◌-◌, ◌<◌, List, ◌++◌, length, take, drop, get_or, slice_index, arith, refl, sym, ap, ◌∙◌, inl, inr}
+use Rattle.std.proofs.lemmas.Bool.{ne_eqb}
 use Rattle.std.proofs.Math.Seq.{take-add}
-use Rattle.rex_model.specs.Runs.{Automaton, nowhere, moved, run, accepted, IsStateOf, IsLongestRun}
+use Rattle.rex_model.specs.Runs.{Automaton, nowhere, moved, run, IsStateOf}
 use Rattle.rex_model.proofs.RunsOfAutomata.{run-append, run_more, run_nowhere}
 use Rattle.scan_driver.specs.within.Furthest.{IsFurthest}
 

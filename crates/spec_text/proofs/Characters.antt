@@ -7,7 +7,7 @@ use Rattle.std.proofs.lemmas.Bool.{and_parts}
 use Rattle.spec_text.specs.Bytes.{is_text_byte}
 use Rattle.spec_text.specs.Lexemes.{Quoted, nothing, itself, escaped, coded}
 use Rattle.spec_text.specs.Escapes.{named, is_named, is_hex}
-use Rattle.spec_text.specs.Steps.{IsCharacter, HasNo2, HasNoCharacter, IsInside, IsInsideOf, begins_hex}
+use Rattle.spec_text.specs.Steps.{IsCharacter, HasNoCharacter, IsInside, begins_hex}
 
 pub one_itself : (byte : ℕ) (after : List ℕ) → is_text_byte byte ≡ true → IsCharacter (byte ∷ after) 1
 one_itself byte after is = record {

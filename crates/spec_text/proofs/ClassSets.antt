@@ -14,7 +14,7 @@ use Rattle.std.proofs.lemmas.Nat.Bits.{and_pow, bit_at-lt, bit_at_not}
 use Rattle.std.specs.Int.{bit_at}
 use Rattle.spec_text.specs.Bytes.{is_between}
 use Rattle.spec_text.specs.Escapes.{is_hex}
-use Rattle.spec_text.specs.Classes.{ClassChar, plain, by_name, by_code, Span, Listed, no_spans, single, range, set_of_spans, set_of, IsIn, AddsSpan, BeginsSpan, HasNoChar, HasNoSpan, IsClassOf, HasNoClass, IsFlipped}
+use Rattle.spec_text.specs.Classes.{ClassChar, plain, by_name, by_code, Span, Listed, no_spans, single, range, set_of_spans, set_of, IsIn, AddsSpan, BeginsSpan, HasNoChar, HasNoSpan, IsClassOf, IsFlipped}
 use Rattle.spec_text.proofs.OneClass.{no_dash}
 
 -- a character has one meaning and one end

@@ -1,9 +1,9 @@
 -- What the characters of a string mean.
-use Rattle.std.proofs.Common.{◌≡◌, ℕ, ◌+◌, ◌*◌, true, List, [], ◌∷◌, ◌++◌, refl, sym, ap, ◌∙◌, arith, append_assoc}
+use Rattle.std.proofs.Common.{◌≡◌, ℕ, ◌+◌, ◌*◌, List, [], ◌∷◌, ◌++◌, refl, sym, ap, ◌∙◌, arith, append_assoc}
 use Rattle.std.specs.Char.{digit_value}
 use Rattle.std.proofs.lemmas.List.{append-nil}
-use Rattle.spec_text.specs.Escapes.{named, is_hex}
-use Rattle.spec_text.specs.Lexemes.{Quoted, nothing, itself, escaped, coded}
+use Rattle.spec_text.specs.Escapes.{named}
+use Rattle.spec_text.specs.Lexemes.{Quoted, itself, escaped, coded}
 use Rattle.spec_text.specs.Steps.{MeansFirst, MeansNothing}
 
 pub itself_first : (first : ℕ) (after : List ℕ) → (first ≡ 92 → ⊥) → MeansFirst (first ∷ after) first after

@@ -1,7 +1,7 @@
 -- A line has one reading at most.
 use Rattle.std.proofs.Common.{◌≡◌, List, [], ◌∷◌, refl, sym, ap, ◌∙◌, Some}
-use Rattle.spec_text.specs.Lexemes.{Lexeme, word, text}
-use Rattle.spec_text.specs.Parts.{Part, Name, Text, Opt, absent, present, ListBy, last, next, Some1, last_one, one_more, Behind, Before, Then, Follow}
+use Rattle.spec_text.specs.Lexemes.{Lexeme, word}
+use Rattle.spec_text.specs.Parts.{Part, Name, Opt, absent, present, ListBy, last, next, Some1, last_one, one_more, Behind, Before, Then, Follow}
 use Rattle.spec_text.proofs.Readings.{pair_is}
 
 -- what is read, and what follows it, are one

@@ -13,7 +13,6 @@ use Rattle.spec_text.specs.Steps.{IsFirst, IsRead, HasNo2}
 use Rattle.spec_text.specs.declared.token.SpecSort.{SpecSort}
 use Rattle.spec_text.specs.declared.token.SpecSort.TheVariants.{Number}
 use Rattle.spec_text.specs.declared.token.SpecToken.{SpecToken}
-use Rattle.spec_text.proofs.OneReading.{some_begin}
 
 pub record TokensSoFar (at here : ℕ) (line rest : List ℕ) (tokens : List SpecToken) : Type 0 where
   pub seen : List Placed

@@ -21,11 +21,11 @@ use Rattle.spec_text.specs.declared.line.SpecLine.{SpecLine}
 use Rattle.spec_text.specs.declared.order.Mark.{Mark}
 use Rattle.spec_text.specs.declared.order.Mark.TheVariants.{Head, End, Plain}
 use Rattle.spec_text.specs.declared.view.Token.{Token}
-use Rattle.spec_text.specs.Classes.{set_of, IsSetAt, HasNoSet}
+use Rattle.spec_text.specs.Classes.{set_of, IsSetAt}
 use Rattle.spec_text.proofs.OneClass.{one_class}
 use Rattle.spec_text.proofs.Forms.{one_form, as_text, as_class}
 use Rattle.spec_text.proofs.TokensSoFar.{number_of}
-use Rattle.spec_text.proofs.Lists.{take_step, take_all, all_at, same_at, same_length}
+use Rattle.spec_text.proofs.Lists.{take_step, all_at, same_at, same_length}
 
 -- the line at a place
 pub record LineAt (file : List ℕ) (line : SpecLine) (lines : List Line) (i : ℕ) : Type 0 where

@@ -1,10 +1,10 @@
 -- The line and the column of the place after one byte more.
 use Rattle.std.proofs.Common.{◌≡◌, ℕ, ◌+◌, ◌-◌, ◌<◌, ◌≤◌, true, false, eqb, not, List, length, get_or, take, Some, slice_get, sym, ap, ◌∙◌, arith}
 use Rattle.std.proofs.lemmas.List.{length-take}
-use Rattle.std.proofs.lemmas.List.Sums.{count_by-le-length, count_by_more_yes, count_by_more_no, suffix_len-le-length, suffix_len-take_no, suffix_len-take_yes}
+use Rattle.std.proofs.lemmas.List.Sums.{count_by_more_yes, count_by_more_no, suffix_len-le-length, suffix_len-take_no, suffix_len-take_yes}
 use Rattle.std.proofs.lemmas.Option.{slice_get_within, get_or_from_slice_get}
 use Rattle.std.proofs.lemmas.Bool.{ne_eqb}
-use Rattle.rex_model.specs.Place.{line_at, column_at}
+use Rattle.rex_model.specs.Place.{column_at}
 use Rattle.tree_build.specs.within.Places.{IsPlace}
 use Rattle.tree_build.specs.declared.place.Place.{Place}
 

@@ -1,5 +1,5 @@
 -- The tokens that steps shift, one step after the other, are those of their derivation.
-use Rattle.std.proofs.Common.{◌≡◌, ℕ, List, [], ◌∷◌, ◌++◌, map, refl, sym, ap, ap₂, ◌∙◌, append_assoc}
+use Rattle.std.proofs.Common.{◌≡◌, ℕ, List, [], ◌∷◌, ◌++◌, map, refl, sym, ap, ap₂, ◌∙◌}
 use Rattle.value_store.specs.Texts.{text_of}
 use Rattle.value_store.specs.declared.text.Text.{Text}
 use Rattle.expr_lang.specs.Meaning.{tokens_of}

@@ -1,6 +1,6 @@
 -- Forests, roots and trees that conform, tried where the nearest wrong reading differs.
-use Rattle.std.proofs.Common.{◌≡◌, ℕ, zero, suc, ◌<◌, List, [], ◌∷◌, length, true, Some, None, refl, sym, ◌∙◌, subst, arith, pos}
-use Rattle.std.specs.Prelude.{codes, slice_get}
+use Rattle.std.proofs.Common.{◌≡◌, ℕ, zero, suc, ◌<◌, List, [], ◌∷◌, true, Some, None, refl, sym, ◌∙◌, arith, pos}
+use Rattle.std.specs.Prelude.{slice_get}
 use Rattle.std.proofs.lemmas.Option.{same_Some}
 use Rattle.value_store.specs.declared.value.Value.{Value}
 use Rattle.value_store.specs.declared.value.Value.TheVariants as value

@@ -1,5 +1,5 @@
 -- Each tree of a forest has one preorder and one postorder.
-use Rattle.std.proofs.Common.{◌≡◌, ℕ, zero, suc, ◌<◌, List, [], ◌∷◌, ◌++◌, Some, refl, ap, ◌∙◌, arith}
+use Rattle.std.proofs.Common.{◌≡◌, ℕ, zero, suc, ◌<◌, List, [], ◌∷◌, ◌++◌, Some, refl, arith}
 use Rattle.std.specs.Prelude.{slice_get}
 use Rattle.tree_store.specs.Forest.{Node, children_at, IsForest}
 use Rattle.tree_store.specs.Orders.{Preorder, no_tree, node_first, Postorder, no_tree_left, node_last}

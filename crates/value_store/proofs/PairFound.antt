@@ -1,8 +1,5 @@
 -- The pairs of a map, one after the other from the newest on.
-use Rattle.std.proofs.Common.{◌≡◌, ℕ, List, [], length, Some, refl, ap, arith, true, false}
-use Rattle.std.specs.Str.{bytes_eq}
-use Rattle.value_store.specs.Texts.{text_of}
-use Rattle.value_store.specs.Maps.{entries, first_with}
+use Rattle.std.proofs.Common.{◌≡◌, ℕ, List, [], length, ap, arith}
 use Rattle.value_store.specs.Cells.{Cell, pairs_at, pairs_in, cells_of}
 use Rattle.value_store.specs.UnitFacts.{SaysEntry}
 use Rattle.value_store.specs.declared.unit.MapUnit.{MapUnit}

@@ -1,12 +1,10 @@
 -- What the steps of the reader of AST see and find. Only contracts within the crate cite these.
-use Rattle.std.specs.Prelude.{◌≡◌, ◌⊎◌, ℕ, ◌++◌, ◌<◌, min, Bool, true, List, map, length, Contains, Option, Some, None, MatchOption, slice_get, slice_index, codes}
-use Rattle.value_store.specs.declared.value.ValType.TheVariants as ty
+use Rattle.std.specs.Prelude.{◌≡◌, ◌⊎◌, ℕ, ◌<◌, min, true, List, map, Contains, Option, Some, None, MatchOption, slice_get, codes}
 use Rattle.ck_base.specs.declared.fault.Kind.{Kind}
 use Rattle.ck_base.specs.declared.fault.SpecFault.{SpecFault}
 use Rattle.ck_base.specs.declared.fault.SpecFault.TheVariants.{Bad, NoMemory}
 use Rattle.cfg_model.specs.Cfg.{Rule}
 use Rattle.cfg_model.specs.declared.named.NamedGrammar.{NamedGrammar}
-use Rattle.expr_lang.specs.Meaning.{meaning}
 use Rattle.spec_text.specs.Declares.{Declared, HasAt, HasFault}
 use Rattle.spec_text.specs.FirstFault.{FirstFault, Least}
 use Rattle.spec_text.specs.Sections.{SectionLines}

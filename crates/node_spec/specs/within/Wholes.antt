@@ -1,6 +1,6 @@
 -- Expressions that nothing behind goes on with, as a reader goes through them: from left to right, by the
 -- tokens that are next. Only contracts within the crate cite these.
-use Rattle.std.specs.Prelude.{◌≡◌, ℕ, suc, ◌+◌, ◌<◌, ◌≤◌, true, false, List, [], ◌∷◌, codes, Option, Some, None, if◌then◌else◌}
+use Rattle.std.specs.Prelude.{◌≡◌, ℕ, suc, ◌<◌, ◌≤◌, true, false, List, [], ◌∷◌, codes, Option, Some, None, if◌then◌else◌}
 use Rattle.std.specs.Str.{bytes_eq}
 use Rattle.expr_lang.specs.declared.expr.Op.{Op}
 use Rattle.spec_text.specs.Lexemes as lex

@@ -1,5 +1,5 @@
 -- What the expressions of the program say. Only contracts within the crate cite these.
-use Rattle.std.specs.Prelude.{ℕ, List, [], ◌∷◌, map, Option, Some, None}
+use Rattle.std.specs.Prelude.{List, [], ◌∷◌}
 use Rattle.node_spec.specs.Spoken.{Spoken, SpokenList, no_spoken, and_spoken}
 use Rattle.node_spec.specs.Spoken as spoken
 use Rattle.node_spec.specs.declared.written.Written.{Written}

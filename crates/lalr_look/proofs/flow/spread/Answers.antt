@@ -1,4 +1,4 @@
-use Rattle.std.proofs.Common.{◌≡◌, ℕ, ◌<◌, ◌+◌, ◌↔◌, length, List, [], ◌∷◌, arith, refl, sym, ap, ◌∙◌, subst, Contains, slice_index_or}
+use Rattle.std.proofs.Common.{◌≡◌, ℕ, length, List, [], ◌∷◌, arith, refl, sym, ap, ◌∙◌, subst, Contains, slice_index_or}
 use Rattle.std.proofs.lemmas.List.Elements.{Contains-append_right}
 use Rattle.lalr_look.specs.Rows.{rows_of}
 use Rattle.lalr_look.proofs.Flowing.{Turning, all_wait, popped, row_done, sent, flowed, row_is, counted, same_sizes, low_node, edge_at}

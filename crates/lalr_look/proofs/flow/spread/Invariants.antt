@@ -1,4 +1,4 @@
-use Rattle.std.proofs.Common.{ℕ, ◌<◌, ◌≤◌, ◌+◌, ◌*◌, ◌↔◌, length, Contains}
+use Rattle.std.proofs.Common.{◌≤◌, ◌+◌, ◌*◌, length}
 use Rattle.lalr_look.specs.Rows.{rows_of}
 use Rattle.lalr_look.proofs.Flowing.{Turning}
 use Rattle.lalr_look.proofs.Holes.{holes}

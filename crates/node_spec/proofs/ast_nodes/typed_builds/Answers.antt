@@ -1,6 +1,6 @@
 -- The head's fault of kind type, else the earlier of a part of the wrong side and an expression that builds no node.
 use Rattle.std.proofs.Common.{refl, inr, []}
-use Rattle.node_spec.proofs.AstStages.{at_its_head, first_of_both, first_side, none_typing, not_so}
+use Rattle.node_spec.proofs.AstStages.{first_of_both, first_side, none_typing, not_so}
 use Rattle.node_spec.proofs.ast_nodes.typed_builds.Goals as goal
 
 pub builds_of-requires-clause-there : goal.builds_of-requires-clause-there

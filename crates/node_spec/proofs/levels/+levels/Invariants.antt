@@ -1,5 +1,5 @@
 -- What has parts takes one from the nesting that is left.
-use Rattle.std.proofs.Common.{◌+◌, ◌*◌, ◌-◌, ◌≤◌, ◌<◌, length, map}
+use Rattle.std.proofs.Common.{◌+◌, ◌*◌, ◌-◌, length, map}
 use Rattle.spec_text.specs.Seen.{seen}
 use Rattle.node_spec.specs.within.Writing.{spoken_of}
 use Rattle.node_spec.proofs.Chains.{ChainSoFar}

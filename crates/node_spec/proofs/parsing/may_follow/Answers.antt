@@ -1,5 +1,5 @@
 -- By the next token.
-use Rattle.std.proofs.Common.{◌≡◌, ◌∷◌, true, false, map, codes, refl, sym, ◌∙◌}
+use Rattle.std.proofs.Common.{◌≡◌, true, false, map, refl, sym, ◌∙◌}
 use Rattle.spec_text.specs.Lexemes.{word, sign}
 use Rattle.spec_text.specs.Seen.{seen}
 use Rattle.node_spec.specs.Notation.{closing, comma, arrow, a_word_behind}

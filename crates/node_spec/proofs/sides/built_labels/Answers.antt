@@ -1,6 +1,6 @@
 -- Each turn looks at one line.
 use Rattle.node_spec.proofs.AstLimits.{line_at, line_end}
-use Rattle.node_spec.proofs.JoinedFamilies.{no_built_yet, one_built, all_built}
+use Rattle.node_spec.proofs.JoinedFamilies.{one_built, all_built}
 use Rattle.node_spec.proofs.sides.built_labels.Goals as goal
 
 pub loop-line-preserved : goal.loop-line-preserved

@@ -1,5 +1,5 @@
 -- By the words before and after a position, whose numbers begin with 0.
-use Rattle.std.proofs.Common.{◌≡◌, ℕ, ◌+◌, subst, arith}
+use Rattle.std.proofs.Common.{◌≡◌, ◌+◌, subst, arith}
 use Rattle.rex_model.specs.Positions.{Takes, First, Follow, position_count}
 use Rattle.rex_model.specs.Sets.{ComesNext, marked}
 use Rattle.rex_dfa.proofs.MarkedWords.{mark_of_word, word_of_mark}
