@@ -1,5 +1,5 @@
 -- The answer of a run, the names that it reads and how it ends, tried on cases that are worked by hand.
-use Rattle.std.proofs.Common.{◌≡◌, ◌⊎◌, inl, inr, ℕ, List, [], ◌∷◌, ◌++◌, length, Option, None, Some, codes, refl, arith, take, length-take, ap, sym, subst}
+use Rattle.std.proofs.Common.{◌≡◌, ◌⊎◌, inl, inr, ℕ, List, [], ◌∷◌, ◌++◌, length, Option, None, Some, codes, refl, arith, take, length-take, ap, sym, ◌∙◌, subst}
 use Rattle.std.specs.Fmt.{digits}
 use Rattle.ck_base.specs.Found.{HasNo}
 use Rattle.ck_base.specs.declared.fault.Kind.TheVariants.{Section}
@@ -10,17 +10,18 @@ use Rattle.ck_base.specs.declared.status.Status.{Status}
 use Rattle.ck_base.specs.declared.status.Status.TheVariants as status
 use Rattle.ck_io.specs.Contents.{IsTold}
 use Rattle.rex_model.specs.Run.{Tokens}
+use Rattle.spec_text.specs.declared.section.Section.TheVariants.{Lalr}
 use Rattle.spec_text.proofs.SectionExamples.{rex_end_file, empty_file}
 use Rattle.ck_chain.specs.Accepts.{of_sections}
 use Rattle.ck_chain.specs.Answers.{makes, tokens}
 use Rattle.ck_chain.specs.Outcome.{Outcome, output, refused}
 use Rattle.ck_chain.specs.Scanning.{bad_token, printed}
-use Rattle.ck_chain.specs.declared.stage.Stage.TheVariants.{Tokens as of_tokens}
-use Rattle.ck_chain.proofs.Examples.{accepts_none, tokens_need_none}
+use Rattle.ck_chain.specs.declared.stage.Stage.TheVariants.{Tokens as of_tokens, Derive as of_derive}
+use Rattle.ck_chain.proofs.Examples.{accepts_none, tokens_need_none, derivation_needs_grammar}
 use Rattle.ck_tool.specs.Ran.{Sunk, Kept, FaultsRose, WritesOnlyDone, Gained, GainedPart, Answers, UsageExactly, Tells, told, cut, Ran, done, refusing, memory, reading, writing, ended}
-use Rattle.ck_tool.specs.Wanted.{Settles, by_spec, names_in, Hold, no_files, one_more, Wanted, Reads}
+use Rattle.ck_tool.specs.Wanted.{Settles, by_spec, by_tools, names_in, Hold, no_files, one_more, Wanted, Reads}
 use Rattle.ck_tool.specs.Words.{AreOfStage, AreRight, of_stage}
-use Rattle.ck_tool.proofs.AnswerOfRun.{wanted_of_words, wanted_of_spec, wanted_of_source}
+use Rattle.ck_tool.proofs.AnswerOfRun.{wanted_of_words, wanted_of_spec, wanted_of_tools, wanted_of_source}
 
 -- the words `tokens s x`
 abbrev pub words : List (List ℕ)
@@ -28,6 +29,13 @@ words = codes "tokens" ∷ codes "s" ∷ codes "x" ∷ []
 
 are_tokens : AreOfStage words of_tokens (codes "s") (codes "x")
 are_tokens = record { words_are = refl; is_spec = λ e. cc; is_source = λ e. cc }
+
+-- the words `derive s x`
+abbrev pub derive_words : List (List ℕ)
+derive_words = codes "derive" ∷ codes "s" ∷ codes "x" ∷ []
+
+are_derive : AreOfStage derive_words of_derive (codes "s") (codes "x")
+are_derive = record { words_are = refl; is_spec = λ e. cc; is_source = λ e. cc }
 
 -- two words are wrong, and Usage is the answer
 one_file : (contents : List ℕ → Option (List ℕ)) → Wanted contents (codes "tokens" ∷ codes "s" ∷ []) (refused refusal.Usage)
@@ -53,15 +61,21 @@ module _ (contents : List ℕ → Option (List ℕ)) where
   wants_bad_spec : contents (codes "s") ≡ Some [] → Wanted contents words (refused (refusal.BadSpec 1 Section))
   wants_bad_spec spec = wanted_of_spec contents words of_tokens _ _ are_tokens [] _ (rw spec refl) (of_sections (omega arith) 1 empty_file)
 
-  -- and the source isn't read then
-  refused_reads_no_source : contents (codes "s") ≡ Some [] → Reads contents words (codes "x") → ⊥
-  refused_reads_no_source spec reads = none_before reads.before reads.others reads.files reads.named reads.hold reads.unsettled
+  -- without a grammar its section is missing, whatever the source is
+  wants_no_grammar : contents (codes "s") ≡ Some rex_end_file → Wanted contents derive_words (refused (refusal.MissingSection (codes "LALR")))
+  wants_no_grammar spec = wanted_of_tools contents derive_words of_derive _ _ are_derive rex_end_file _ (rw spec refl) accepts_none Lalr (derivation_needs_grammar _)
+
+  -- behind a specification that settles the answer the source isn't read
+  reads_no_source : (words : List (List ℕ)) (spec : List ℕ) (o : Outcome) → names_in words ≡ codes "s" ∷ codes "x" ∷ []
+      → contents (codes "s") ≡ Some spec → Settles words (spec ∷ []) o → Reads contents words (codes "x") → ⊥
+  reads_no_source words spec o names holds settles reads =
+      none_before reads.before reads.others reads.files (sym names ∙ reads.named) reads.hold reads.unsettled
     where
-      same_bytes : (told : Option (List ℕ)) (bytes : List ℕ) → told ≡ Some [] → IsTold told bytes → bytes ≡ []
+      same_bytes : (found : Option (List ℕ)) (bytes : List ℕ) → found ≡ Some spec → IsTold found bytes → bytes ≡ spec
       same_bytes None bytes at is = cc
       same_bytes (Some all) bytes at is = cc
 
-      none_before : (before others files : List (List ℕ)) → names_in words ≡ before ++ codes "x" ∷ others → Hold contents before files
+      none_before : (before others files : List (List ℕ)) → codes "s" ∷ codes "x" ∷ [] ≡ before ++ codes "x" ∷ others → Hold contents before files
           → ((first rest : List (List ℕ)) → files ≡ first ++ rest → HasNo (Settles words first)) → ⊥
       none_before [] others files named hold unsettled =
           let other : codes "x" ≡ codes "s" = cc in
@@ -69,11 +83,18 @@ module _ (contents : List ℕ → Option (List ℕ)) where
           omega arith
       none_before (name ∷ []) others _ named (one_more _ bytes _ _ is (no_files)) unsettled =
           let first : name ≡ codes "s" = cc in
-          let empty : bytes ≡ [] = same_bytes (contents name) bytes (subst (λ n. contents n ≡ Some []) (sym first) spec) is in
-          unsettled (bytes ∷ []) [] refl (refused (refusal.BadSpec 1 Section)) (by_spec of_tokens (codes "s") (codes "x") bytes _ are_tokens
-          (rw empty (of_sections (omega arith) 1 empty_file)))
+          let all : bytes ≡ spec = same_bytes (contents name) bytes (subst (λ n. contents n ≡ Some spec) (sym first) holds) is in
+          unsettled (bytes ∷ []) [] refl o (subst (λ b. Settles words (b ∷ []) o) (sym all) settles)
       none_before (name ∷ other ∷ []) others files named hold unsettled = cc
       none_before (name ∷ other ∷ next ∷ more) others files named hold unsettled = cc
+
+  refused_reads_no_source : contents (codes "s") ≡ Some [] → Reads contents words (codes "x") → ⊥
+  refused_reads_no_source spec = reads_no_source words [] (refused (refusal.BadSpec 1 Section)) refl spec
+      (by_spec of_tokens (codes "s") (codes "x") [] _ are_tokens (of_sections (omega arith) 1 empty_file))
+
+  missing_reads_no_source : contents (codes "s") ≡ Some rex_end_file → Reads contents derive_words (codes "x") → ⊥
+  missing_reads_no_source spec = reads_no_source derive_words rex_end_file (refused (refusal.MissingSection (codes "LALR"))) refl spec
+      (by_tools of_derive (codes "s") (codes "x") rex_end_file _ Lalr are_derive accepts_none (derivation_needs_grammar _))
 
 -- a sink that took all bytes didn't take a part of them, whatever its count says
 whole_is_no_part : (count : ℕ) → GainedPart (record { old = Some []; new = Some (codes "ab"); before = 0; now = count }) (codes "ab") → ⊥
