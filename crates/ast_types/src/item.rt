@@ -7,7 +7,9 @@ use value_store::{Name, NoMemory, ValType};
 /// An item of a type: a child, where it is of a family, else a field.
 #[derive(Drop)]
 pub struct Item {
+    /// How it is called.
     pub name: Name,
+    /// The type of its values.
     pub of: ValType,
 }
 

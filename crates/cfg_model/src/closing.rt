@@ -27,6 +27,7 @@ pub fn productive(alloc: Global, g: &Grammar) -> Result<Bits, NoMemory>
     makers(alloc, g, true)
 }
 
+/// The nonterminals that derive a word; where `words` is false, those that derive the empty word.
 fn makers(alloc: Global, g: &Grammar, words: bool) -> Result<Bits, NoMemory>
     requires { IsGrammar g.now }
     ensures { IfOk result (AreMakers words g.now) }
@@ -89,6 +90,7 @@ fn all_pass(list: &[Sym], words: bool, set: &Bits) -> bool
     true
 }
 
+/// Whether the symbol is in the set; a terminal passes where `words` is true.
 pub(crate) fn passes(symbol: Sym, words: bool, set: &Bits) -> bool
     ensures { IsTrue result ↔ Passes words (Has set.now) symbol }
 {

@@ -4,7 +4,7 @@ ghost use Rattle.ck_base.specs.declared.fault.SpecFault.TheVariants.{NoMemory};
 use std::alloc::{AllocError, AllocFailed};
 use value_store::NoMemory;
 
-/// What is wrong with a line of a specification, in the order in which faults are looked for.
+/// What is wrong with a line of a specification.
 #[derive(Clone, Copy, Debug, PartialEq, Eq)]
 pub enum Kind {
     /// The sections don't stand as they must.

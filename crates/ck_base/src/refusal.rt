@@ -5,8 +5,7 @@ use crate::fault::Kind;
 use crate::status::Status;
 use value_store::Name;
 
-/// Why a run is refused. The variants stand in the order in which they are looked for. A definition
-/// sees a name as its bytes, so equal refusals are equal values.
+/// Why a run is refused. A definition sees a name as its bytes, so equal refusals are equal values.
 #[derive(Debug, Drop)]
 pub enum Refusal {
     /// The words of the command line aren't right.
@@ -30,7 +29,7 @@ pub enum Refusal {
     Unproductive {
         name: Name,
     },
-    /// This nonterminal derives itself alone.
+    /// This nonterminal derives itself, in one step or more.
     Cyclic {
         name: Name,
     },
@@ -38,7 +37,7 @@ pub enum Refusal {
     HiddenLeft {
         name: Name,
     },
-    /// This nonterminal is left recursive, in an LL(1) grammar.
+    /// This nonterminal is left recursive, in a grammar under ELL.
     LeftRecursive {
         name: Name,
     },

@@ -26,14 +26,17 @@ pub enum Parser {
 /// What an accepted specification gives: what its sections declare, with their tables.
 #[derive(Drop)]
 pub struct Toolset<'a> {
+    /// The scan rules of the section REX.
     pub rules: ScanRules<'a>,
+    /// The scanner's tables.
     pub scan: ScanTables,
-    /// That of the section LALR or ELL; `None` where the specification has neither.
+    /// The grammar of the section LALR or ELL; `None` where the specification has neither.
     pub grammar: Option<NamedGrammar>,
+    /// The parser of the grammar.
     pub parser: Parser,
-    /// Those of the section AST; `None` where the specification has none.
+    /// What the section AST declares; `None` where the specification has none.
     pub nodes: Option<NodeSpec<'a>>,
-    /// The texts of the strings in their expressions.
+    /// The texts of the strings in the expressions of AST.
     pub literals: Literals,
 }
 

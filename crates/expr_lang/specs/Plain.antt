@@ -12,7 +12,7 @@ pub record PlainHolds (env : List Value) (vars : Context) : Type 0 where
   pub are : AreOf vars.sources [] env vars.vars
   pub plain : (i : ℕ) (t : ValType) → slice_get vars.vars i ≡ Some t → IsPlain t
 
--- the expression is of the type; it has fewer than 2^63 `put`s
+-- the expression is of the type; it takes fewer than 2^63 units
 pub record PlainReady (env : List Value) (t : ValType) (e : Expression) : Type 0 where
   pub vars : Context
   pub typed : HasType vars e t

@@ -17,7 +17,8 @@ ghost use Rattle.front_spec.specs.Regexes.{EndsRegex, IsRegex, Written};
 ghost use Rattle.front_spec.specs.RexShapes.{RexShape, Saying};
 ghost use Rattle.front_spec.specs.RexFaults.{rex};
 
-/// Law: tokens begin with one expression at most, and it ends in one place, wherever none can go on.
+/// Law: tokens begin with one regular expression at most behind which one may end, and it ends in
+/// one place.
 pub fn at_most_one_regex()
     ensures { (tokens rest more : List Lexeme) (v w : Written) → EndsRegex rest → EndsRegex more
         → IsRegex tokens v rest → IsRegex tokens w more → (v ≡ w) × (rest ≡ more) }

@@ -19,7 +19,7 @@ pub struct Rests {
 }
 
 impl Rests {
-    /// Finds it out.
+    /// FIRST of each nonterminal of the grammar, and which of them derive the empty word.
     pub fn of(alloc: Global, g: &Grammar) -> Result<Rests, NoMemory>
         requires grammar { IsGrammar g.now }
         requires productive { AllProductive g.now }

@@ -3,7 +3,7 @@ ghost use Rattle.spec_text.specs.Lexemes.{Lexeme};
 ghost use Rattle.node_spec.specs.Notation.{IsSpoken, MayFollow};
 ghost use Rattle.node_spec.specs.Spoken.{Spoken};
 
-/// Law: tokens begin with one expression at most, and it ends in one place, wherever one may end.
+/// Law: tokens begin with one expression at most behind which one may end, and it ends in one place.
 pub fn at_most_one_expression()
     ensures { (tokens rest more : List Lexeme) (e f : Spoken) → MayFollow rest → MayFollow more
         → IsSpoken tokens e rest → IsSpoken tokens f more → (e ≡ f) × (rest ≡ more) }

@@ -6,6 +6,7 @@ use expr_lang::Expr;
 /// which counts from 0. A rule without a BUILD line builds the value of its one nonterminal.
 #[derive(Drop)]
 pub struct NodeSpec<'a> {
+    /// The families and types of nodes.
     pub types: Types,
     /// The family of each nonterminal.
     pub nodes: Vec<u32>,

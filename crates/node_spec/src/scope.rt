@@ -8,6 +8,7 @@ pub struct NameScope<'s> {
     /// BUILD line a variable's name is `$` and its number from 1 in decimal. A variable that `dotted`
     /// alone names has the empty name.
     pub names: &'s [Name],
+    /// The types of the variables, and the makers.
     pub scope: Scope<'s>,
     /// The word before a `.`, the word after it, and the number of the variable that they name.
     pub dotted: &'s [(Name, Name, u32)],

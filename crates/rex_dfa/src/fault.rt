@@ -8,5 +8,6 @@ pub enum DfaError {
     NullableRule(u32),
     /// There are more than 4,096 sets of positions.
     TooManyStates(StateKind),
+    /// Memory was wanting.
     NoMemory,
 }

@@ -10,8 +10,8 @@ pub fn mark_follows_words()
         (position_count r) }
 {}
 
-/// Law: read from the end of a text, it can come next exactly after the reversed words. No reversed
-/// expression is made.
+/// Law: read from the end of a text, the end mark of an expression can come next exactly after the
+/// reversed words. No reversed expression is made.
 pub fn mark_follows_reversed_words()
     ensures { (r : Re) (w : List ℕ) → Language r (reverse w)
         ↔ ComesNext (Takes r 0) (FollowBackwards r) (FirstBackwards r) w (position_count r) }

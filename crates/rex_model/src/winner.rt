@@ -36,7 +36,8 @@ pub fn scan_sets(
     Ok(scan_with(&mut sets, rules, text, state, at))
 }
 
-/// The same with sets that were made before, so that a scan takes no memory.
+/// What a scan from the place on gives, as `scan_sets` says, with sets that were made before: it
+/// takes no memory.
 pub fn scan_with(
     sets: &mut PositionSets,
     rules: &ScanRules,

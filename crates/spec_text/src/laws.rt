@@ -30,17 +30,17 @@ pub fn at_most_one_section_fault()
     ensures { OneSectionFault }
 {}
 
-/// Law: a line has a reading.
+/// Law: it can't be that a line has no reading.
 pub fn some_reading()
     ensures { SomeReading }
 {}
 
-/// Law: a file has lines.
+/// Law: it can't be that a file has its lines in no way.
 pub fn some_file()
     ensures { SomeFile }
 {}
 
-/// Law: a file has sections or a first section fault.
+/// Law: it can't be that a file has neither sections nor a first section fault.
 pub fn some_order()
     ensures { SomeOrder }
 {}
