@@ -1,8 +1,8 @@
 -- A type added to a sound table, at its end, leaves a sound table.
-use Rattle.std.proofs.Common.{◌≡◌, ℕ, ◌<◌, ◌++◌, List, [], ◌∷◌, length, map, Some, None, refl, sym, ap, ◌∙◌, subst, arith, zero, suc, length-append}
+use Rattle.std.proofs.Common.{◌≡◌, ℕ, ◌+◌, ◌^◌, ◌<◌, ◌++◌, List, [], ◌∷◌, length, map, Some, None, refl, sym, ap, ◌∙◌, subst, arith, zero, suc, length-append}
 use Rattle.std.specs.Prelude.{slice_get}
 use Rattle.std.proofs.lemmas.Option.{slice_get_past}
-use Rattle.ast_types.specs.TypeTable.{Family, NodeType, type_in, type_at, base_items, BaseFits, IsSound}
+use Rattle.ast_types.specs.TypeTable.{Family, NodeType, type_in, type_at, base_items, BaseFits, IsSound, IsNumbered}
 use Rattle.ast_types.specs.Rows.{family_of_row, type_of_row}
 use Rattle.ast_types.specs.declared.item.Item.{Item}
 use Rattle.ast_types.specs.declared.types.FamilyRow.{FamilyRow}
@@ -94,12 +94,26 @@ more_types families types new own sound family fits items = record {
     family_it t within (at_end e) = rw (type_at-end types new t e) family
     family_it t within (past lt) = absurd (omega (arith, within, lt, length-append types (new ∷ [])))
 
--- one more row
-pub type_added : (fams : List FamilyRow) (rows new : List TypeRow) (row : TypeRow) (families : List Family) (types : List NodeType) (own : List Item)
+added_sound : (fams : List FamilyRow) (rows new : List TypeRow) (row : TypeRow) (families : List Family) (types : List NodeType) (own : List Item)
     → IsSound (record { families = map family_of_row fams; types = map type_of_row rows })
     → map type_of_row rows ≡ types → map family_of_row fams ≡ families → row.family < length families → BaseFits types row.family row.base
     → row.items.items ≡ base_items types row.base ++ own → new ≡ rows ++ row ∷ []
     → IsSound (record { families = map family_of_row fams; types = map type_of_row new })
-type_added fams rows new row families types own sound ts fs family fits items is =
+added_sound fams rows new row families types own sound ts fs family fits items is =
     rw (is, map-append type_of_row rows (row ∷ []))
     (more_types (map family_of_row fams) (map type_of_row rows) (type_of_row row) own sound (rw fs family) (rw ts fits) (rw ts items))
+
+-- one more row
+pub type_added : (fams : List FamilyRow) (rows new : List TypeRow) (row : TypeRow) (families : List Family) (types : List NodeType) (own : List Item)
+    → IsNumbered (record { families = map family_of_row fams; types = map type_of_row rows }) → length types + 1 < 2 ^ 32
+    → map type_of_row rows ≡ types → map family_of_row fams ≡ families → row.family < length families → BaseFits types row.family row.base
+    → row.items.items ≡ base_items types row.base ++ own → new ≡ rows ++ row ∷ []
+    → IsNumbered (record { families = map family_of_row fams; types = map type_of_row new })
+type_added fams rows new row families types own numbered few ts fs family fits items is = record {
+  sound = added_sound fams rows new row families types own numbered.sound ts fs family fits items is;
+  few_families = numbered.few_families;
+  few_types = (let long = ap (λ x. length x) ts in let all = ap (λ x. length (map type_of_row x)) is in
+      let one = length-append (map type_of_row rows) (type_of_row row ∷ []) in
+      let more = ap (λ x. length x) (map-append type_of_row rows (row ∷ [])) in
+      omega (arith, few, long, all, more, one));
+}

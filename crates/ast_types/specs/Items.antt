@@ -9,6 +9,7 @@ abbrev pub child_then : ValType → List ℕ → List ℕ
 child_then (ty.Node f) fs = f ∷ fs
 child_then _ fs = fs
 
+-- a field's type before those that follow; a child has none
 abbrev pub field_then : ValType → List ValType → List ValType
 field_then (ty.Node f) ts = ts
 field_then t ts = t ∷ ts

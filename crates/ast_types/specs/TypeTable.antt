@@ -1,5 +1,5 @@
 -- Families and types of nodes, and what a type is.
-use Rattle.std.specs.Prelude.{◌≡◌, ℕ, ◌<◌, ◌++◌, List, [], length, Bool, false, Option, Some, None, slice_get}
+use Rattle.std.specs.Prelude.{◌≡◌, ℕ, ◌^◌, ◌<◌, ◌++◌, List, [], length, Bool, false, Option, Some, None, slice_get}
 use Rattle.ast_types.specs.declared.item.Item.{Item}
 
 -- a family: its name, and whether it is of the target side
@@ -18,6 +18,7 @@ pub record TypeTable : Type 0 where
   pub families : List Family
   pub types : List NodeType
 
+-- the family that is there, else one without a name, of the source side
 abbrev pub family_in : Option Family → Family
 family_in None = record { name = []; target = false }
 family_in (Some f) = f
@@ -26,6 +27,7 @@ family_in (Some f) = f
 abbrev pub family_at : List Family → ℕ → Family
 family_at families f = family_in (slice_get families f)
 
+-- the type that is there, else one without a name and items
 abbrev pub type_in : Option NodeType → NodeType
 type_in None = record { name = []; family = 0; base = None; items = [] }
 type_in (Some t) = t
@@ -62,3 +64,9 @@ pub record IsSound (table : TypeTable) : Type 0 where
   pub base_first : (t b : ℕ) → (type_at table.types t).base ≡ Some b
       → (own : List Item) × ((type_at table.types t).items ≡ (type_at table.types b).items ++ own)
   pub family_there : (t : ℕ) → t < length table.types → (type_at table.types t).family < length table.families
+
+-- a sound table whose families and types have numbers of 32 bits
+pub record IsNumbered (table : TypeTable) : Type 0 where
+  pub sound : IsSound table
+  pub few_families : length table.families < 2 ^ 32
+  pub few_types : length table.types < 2 ^ 32

@@ -1,3 +1,4 @@
+// Items of a node type: fields of plain types and children of families.
 ghost use Rattle.std.specs.Prelude.{◌≡◌, ◌++◌, ◌<◌, ◌^◌, Some, length, slice_get, OnOk};
 ghost use Rattle.ast_types.specs.Items.{child_families};
 

@@ -1,3 +1,4 @@
+// The types of nodes of one specification: families, types, bases, and their flattened items.
 ghost use Rattle.std.specs.Prelude.{◌≡◌, ◌+◌, ◌<◌, ◌^◌, ◌++◌, [], ◌∷◌, length, Some, slice_get, IfOk, OnErr, OnOk, IsTrue, ◌↔◌};
 ghost use Rattle.ast_types.specs.Items.{child_families, field_types};
 ghost use Rattle.ast_types.specs.TypeTable.{family_at, type_at, base_items, IsA, IsSound, BaseFits, BaseIsThere};
@@ -37,7 +38,7 @@ pub struct Types {
 
 impl Model for Types {
     ghost use Rattle.std.specs.Prelude.{map};
-    ghost use Rattle.ast_types.specs.TypeTable.{TypeTable, IsSound};
+    ghost use Rattle.ast_types.specs.TypeTable.{TypeTable, IsNumbered};
     ghost use Rattle.ast_types.specs.Rows.{family_of_row, type_of_row};
 
     ghost Value = { TypeTable };
@@ -47,7 +48,7 @@ impl Model for Types {
       types = map type_of_row t.types.items;
     } };
 
-    ghost invariant = { λ t. IsSound (record {
+    ghost invariant = { λ t. IsNumbered (record {
       families = map family_of_row t.families.items;
       types = map type_of_row t.types.items;
     }) };
@@ -139,7 +140,6 @@ impl Types {
 
     /// How many families there are.
     pub fn families(&self) -> u32
-        requires { length self.now.families < 2 ^ 32 }
         ensures { result ≡ length self.now.families }
     {
         self.families.len() as u32
@@ -148,7 +148,6 @@ impl Types {
     /// How many types there are. A base stands before each type that extends it, has its family,
     /// and its items are the first ones of that type.
     pub fn len(&self) -> u32
-        requires { length self.now.types < 2 ^ 32 }
         ensures is { result ≡ length self.now.types }
         ensures sound { IsSound self.now }
     {

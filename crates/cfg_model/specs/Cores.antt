@@ -11,9 +11,11 @@ pub record CoreList : Type 0 where
   pub items : List (List (ℕ × ℕ))
   pub moves : List (List (Sym × ℕ))
 
+-- the items of a core, as rule and dot; none where there is no such core
 abbrev pub items_at : CoreList → ℕ → List (ℕ × ℕ)
 items_at cores n = slice_index_or cores.items n []
 
+-- the moves of a core, as symbol and core; none where there is no such core
 abbrev pub moves_at : CoreList → ℕ → List (Sym × ℕ)
 moves_at cores n = slice_index_or cores.moves n []
 

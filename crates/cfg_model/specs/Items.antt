@@ -9,6 +9,7 @@ abbrev pub right_or : Option Rule → List Sym
 right_or None = []
 right_or (Some one) = one.right
 
+-- the right side of a rule; rule 0 derives the start symbol, rules of the grammar count from 1
 abbrev pub right_of : Cfg → ℕ → List Sym
 right_of g zero = N g.start ∷ []
 right_of g (suc i) = right_or (slice_get g.rules i)

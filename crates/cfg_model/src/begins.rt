@@ -1,3 +1,4 @@
+// What can begin a list of symbols, added to a set with what may follow the list.
 ghost use Rattle.std.specs.Prelude.{◌≡◌, ◌↔◌, ◌<◌, ◌+◌, false, true, ℕ, [], ◌∷◌, IsTrue, All};
 ghost use Rattle.ck_base.specs.BitSet.{Has, Adds};
 ghost use Rattle.cfg_model.specs.within.Closing.{AllPass};

@@ -1,3 +1,4 @@
+// Nullable and productive nonterminals: least sets closed under the rules.
 ghost use Rattle.std.specs.Prelude.{◌≡◌, ◌↔◌, ◌<◌, true, false, ℕ, [], ◌∷◌, IfOk, IsTrue};
 ghost use Rattle.ck_base.specs.BitSet.{Has, Grew};
 ghost use Rattle.cfg_model.specs.Cfg.{IsGrammar};

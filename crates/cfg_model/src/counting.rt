@@ -1,3 +1,4 @@
+// How many members a flag for each nonterminal has.
 ghost use Rattle.std.specs.Prelude.{◌≡◌, ◌+◌, ◌≤◌};
 ghost use Rattle.cfg_model.specs.within.Missing.{missing};
 

@@ -1,3 +1,4 @@
+// FIRST of each nonterminal, by edges from a left side to what stands first.
 ghost use Rattle.std.specs.Prelude.{◌≡◌, ◌↔◌, ◌<◌, ◌≤◌, ◌+◌, ◌⊎◌, true, false, ℕ, IfOk, IsTrue, All, length, ◌∷◌, []};
 ghost use Rattle.ck_base.specs.BitSet.{Has};
 ghost use Rattle.cfg_model.specs.declared.symbol.Sym.TheVariants.{T, N};

@@ -1,3 +1,4 @@
+// FOLLOW of each nonterminal, END among it for the start symbol.
 ghost use Rattle.std.specs.Prelude.{◌≡◌, ◌↔◌, ◌<◌, ◌+◌, false, ℕ, IfOk, IsTrue, All};
 ghost use Rattle.ck_base.specs.BitSet.{Has};
 ghost use Rattle.cfg_model.specs.declared.symbol.Sym.TheVariants.{N};

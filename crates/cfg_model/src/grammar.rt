@@ -1,3 +1,4 @@
+// Rules and grammars over numbered terminals and nonterminals.
 use crate::symbol::Sym;
 use std::marker::Model;
 

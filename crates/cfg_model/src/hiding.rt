@@ -1,3 +1,4 @@
+// Hidden left recursion: a nonterminal behind a part that can vanish at the left of its own rules.
 ghost use Rattle.std.specs.Prelude.{◌≡◌, ◌<◌, ℕ, IfOk, IsTrue, All, false};
 ghost use Rattle.ck_base.specs.BitSet.{Has};
 ghost use Rattle.cfg_model.specs.Cfg.{IsGrammar, IsSymbol};

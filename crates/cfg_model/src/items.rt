@@ -1,3 +1,4 @@
+// Look-ups by number in a grammar: its rules, their symbols, what stands behind a dot.
 ghost use Rattle.std.specs.Prelude.{◌≡◌, ◌<◌, ◌≤◌, ◌^◌, length, slice_get, Some};
 ghost use Rattle.cfg_model.specs.Items.{right_of};
 

@@ -1,3 +1,4 @@
+// Laws on lookaheads and cores of a grammar, on empty functions.
 ghost use Rattle.std.specs.Prelude.{◌≡◌, ℕ, List, ◌↔◌, ◌<◌, ◌⊎◌, ◌∷◌, [], reverse, Option, Some, None};
 ghost use Rattle.cfg_model.specs.declared.symbol.Sym.{Sym};
 ghost use Rattle.cfg_model.specs.Cfg.{Cfg, IsGrammar};

@@ -1,3 +1,4 @@
+// The least nonterminal that a relation brings back to itself, and the least without a word.
 ghost use Rattle.std.specs.Prelude.{◌≡◌, ◌<◌, ◌≤◌, ℕ, IfOk, None};
 ghost use Rattle.cfg_model.specs.Cfg.{IsGrammar};
 ghost use Rattle.cfg_model.specs.Sets.{Productive};

@@ -1,3 +1,4 @@
+// Ranks of nonterminals that fall along what stands at the left of their rules.
 ghost use Rattle.std.specs.Prelude.{◌≡◌, ◌↔◌, ◌<◌, ◌≤◌, ◌+◌, ℕ, length, All, IfOk, IsTrue, slice_index, slice_index_or, false};
 ghost use Rattle.ck_base.specs.BitSet.{Has};
 ghost use Rattle.cfg_model.specs.Cfg.{IsGrammar};

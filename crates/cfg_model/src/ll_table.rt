@@ -1,3 +1,4 @@
+// The trait of an LL(1) table: which rule a nonterminal is expanded by before a token.
 ghost use Rattle.std.specs.Prelude.{◌≡◌, ℕ, ◌<◌, ◌≤◌, List, Option, length};
 ghost use Rattle.cfg_model.specs.Cfg.{Cfg, IsRule};
 ghost use Rattle.cfg_model.specs.LlTables.{Falling};

@@ -1,3 +1,4 @@
+// Cyclic nonterminals: those that derive themselves alone by one or more steps.
 ghost use Rattle.std.specs.Prelude.{◌≡◌, ◌↔◌, ℕ, IfOk, IsTrue};
 ghost use Rattle.cfg_model.specs.Cfg.{IsGrammar};
 ghost use Rattle.cfg_model.specs.declared.symbol.Sym.TheVariants.{N};

@@ -1,3 +1,4 @@
+// Left recursion: what a nonterminal meets at the left of what it derives.
 ghost use Rattle.std.specs.Prelude.{◌≡◌, ◌↔◌, ◌<◌, false, ℕ, IfOk, All};
 ghost use Rattle.ck_base.specs.BitSet.{Has};
 ghost use Rattle.cfg_model.specs.Cfg.{IsGrammar};

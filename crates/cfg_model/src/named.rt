@@ -1,3 +1,4 @@
+// A grammar with the names of its nonterminals and the labels of its rules.
 use crate::grammar::Grammar;
 use ck_base::Names;
 

@@ -1,3 +1,4 @@
+// Which rules have a symbol, and where: the parts that closures walk along.
 ghost use Rattle.std.specs.Prelude.{◌≡◌, ◌↔◌, ◌<◌, true, false, ℕ, IfOk, IsTrue, All, length};
 ghost use Rattle.ck_base.specs.BitSet.{Has};
 ghost use Rattle.cfg_model.specs.within.Closing.{AllPass, Passes};

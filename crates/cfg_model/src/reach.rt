@@ -1,3 +1,4 @@
+// Nonterminals that the start symbol reaches.
 ghost use Rattle.std.specs.Prelude.{◌≡◌, ◌↔◌, ℕ, IfOk};
 ghost use Rattle.ck_base.specs.BitSet.{Has};
 ghost use Rattle.cfg_model.specs.Cfg.{IsGrammar};

@@ -1,3 +1,4 @@
+// Refusals of a grammar for LALR(1), in their order.
 ghost use Rattle.std.specs.Prelude.{◌≡◌};
 ghost use Rattle.cfg_model.specs.declared.refused.LalrError.TheVariants.{NoMemory};
 

@@ -1,3 +1,4 @@
+// Bit rows handed on along edges until nothing changes.
 ghost use Rattle.std.specs.Prelude.{◌≡◌, ◌↔◌, ◌<◌, true, false, ℕ, IfOk, IsTrue, All, length, slice_set};
 ghost use Rattle.ck_base.specs.BitSet.{Has, IsEmpty, Adds, Grew};
 ghost use Rattle.cfg_model.specs.Rows.{row, AreRows};

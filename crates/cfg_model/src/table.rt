@@ -1,3 +1,4 @@
+// The trait of an LR table: actions and gotos by state.
 ghost use Rattle.std.specs.Prelude.{◌≡◌, ℕ, ◌<◌, ◌≤◌, List, length};
 ghost use Rattle.cfg_model.specs.Cfg.{Cfg, IsRule};
 ghost use Rattle.cfg_model.specs.Table.{Table};

@@ -1,3 +1,4 @@
+// Sets of numbers below a size, in words of 64 bits.
 ghost use Rattle.std.specs.Prelude.{◌≡◌, ◌<◌, ◌↔◌, length, IsTrue, IfOk};
 ghost use Rattle.ck_base.specs.BitSet.{Has, IsEmpty, Adds, Grew};
 ghost use Rattle.ck_base.specs.Words.{AreJoined, Differ, IsFit};
@@ -32,6 +33,16 @@ impl Bits {
     {
         let words = vec![in alloc; 0u64; n.div_ceil(64) as usize]?;
         Ok(Bits { size: n, words })
+    }
+
+    /// The set without numbers, and without room for one. It takes no memory.
+    pub fn none(alloc: Global) -> Bits
+        ensures { result.size ≡ 0 }
+    {
+        Bits {
+            size: 0,
+            words: Vec::new(alloc),
+        }
     }
 
     /// The numbers that may be in the set are those below this one.

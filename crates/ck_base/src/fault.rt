@@ -1,3 +1,4 @@
+// The kind and line of a specification's first fault.
 ghost use Rattle.std.specs.Prelude.{◌≡◌};
 ghost use Rattle.ck_base.specs.declared.fault.SpecFault.TheVariants.{NoMemory};
 

@@ -1,3 +1,4 @@
+// The line that each refusal prints.
 ghost use Rattle.std.specs.Prelude.{◌≡◌, IfOk, ◌++◌, codes, map};
 ghost use Rattle.std.specs.List.{concat};
 ghost use Rattle.std.specs.Fmt.{decimal};

@@ -1,3 +1,4 @@
+// Names numbered by their first occurrence.
 ghost use Rattle.std.specs.Prelude.{◌≡◌, ℕ, ◌+◌, ◌^◌, ◌<◌, ◌↔◌, [], ◌∷◌, length, IfOk, OnOk, OnErr, IsNone, Contains, slice_get};
 ghost use Rattle.ck_base.specs.Numbered.{AreApart, met, number_of};
 

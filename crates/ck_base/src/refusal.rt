@@ -1,3 +1,4 @@
+// Everything that a run can refuse, with its exit status.
 ghost use Rattle.std.specs.Prelude.{◌≡◌};
 ghost use Rattle.ck_base.specs.Lines.{status_of};
 

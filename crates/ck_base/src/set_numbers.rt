@@ -1,3 +1,4 @@
+// Sets of numbers, numbered by their first occurrence.
 ghost use Rattle.std.specs.Prelude.{◌≡◌, ℕ, ◌+◌, ◌^◌, ◌<◌, ◌↔◌, [], ◌∷◌, length, IfOk, OnOk, OnErr, IsNone, Contains, slice_get};
 ghost use Rattle.ck_base.specs.Numbered.{met, number_of};
 

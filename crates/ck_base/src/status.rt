@@ -1,3 +1,4 @@
+// Exit statuses of the program.
 ghost use Rattle.std.specs.Prelude.{◌≡◌};
 ghost use Rattle.ck_base.specs.Lines.{code_of};
 

@@ -1,3 +1,4 @@
+// A specification's sections read in their order, and the tables made of them.
 ghost use Rattle.std.specs.Prelude.{◌≡◌, ℕ, ◌≤◌, Bool, IsTrue, List, length, IfOk, IfErr};
 ghost use Rattle.spec_text.specs.Promise.{AreSectionsOf};
 ghost use Rattle.spec_text.specs.Sections.{SectionLines};

@@ -1,3 +1,4 @@
+// What a run answers: the text of its stage, or its first refusal.
 ghost use Rattle.std.specs.Prelude.{◌≡◌, ◌+◌, ◌^◌, ◌<◌, length, IfSome};
 ghost use Rattle.ck_base.specs.Found.{HasNo};
 ghost use Rattle.ck_chain.specs.Answers.{AnswerOf, Makes, Misses, missing_refusal};

@@ -1,3 +1,4 @@
+// The derivation of a source, and its text.
 ghost use Rattle.std.specs.Prelude.{◌≡◌, ℕ, ◌+◌, ◌^◌, ◌<◌, List, Some, length, IfSome};
 ghost use Rattle.rex_model.specs.RuleMeaning.{rules_of};
 ghost use Rattle.rex_model.specs.Runs.{AreBytes};

@@ -1,3 +1,4 @@
+// The text of a list of steps.
 ghost use Rattle.std.specs.Prelude.{◌≡◌, ◌+◌, ◌^◌, ◌<◌, ◌++◌, All, IfOk, OnOk, length, map};
 ghost use Rattle.parse_driver.specs.Parse.{move_of};
 ghost use Rattle.ck_chain.specs.DeriveText.{derive_text, move_line, reduce_line, shift_line};

@@ -1,3 +1,4 @@
+// Laws of the chain, on empty functions: one acceptance, one meaning, some meaning.
 ghost use Rattle.std.specs.Prelude.{◌≡◌, ℕ, List};
 ghost use Rattle.ck_base.specs.Found.{HasNo};
 ghost use Rattle.ck_base.specs.declared.refusal.Refusal.{Refusal};

@@ -1,3 +1,4 @@
+// Names of sections, tokens, nonterminals and labels by their numbers.
 ghost use Rattle.std.specs.Prelude.{◌≡◌, [], slice_index_or};
 ghost use Rattle.spec_text.specs.Sections.{name_of};
 ghost use Rattle.ck_chain.specs.GrammarAccepts.{label_of, terminal_name};

@@ -1,3 +1,4 @@
+// The parser of a grammar, by its class, or the refusal of its tables.
 ghost use Rattle.std.specs.Prelude.{◌≡◌, Some, true, false, IfOk, IfErr, option_map};
 ghost use Rattle.cfg_model.specs.Cfg.{IsGrammar};
 ghost use Rattle.ck_chain.specs.GrammarAccepts.{HasNoTable, HasTable, ell_refusal, label_of, lalr_refusal};

@@ -1,3 +1,4 @@
+// A place in a source: line, column and byte.
 ghost use Rattle.std.specs.Prelude.{◌≡◌, ℕ, ◌+◌, ◌^◌, ◌<◌, ◌≤◌, List, length, Some, slice_get};
 ghost use Rattle.ck_chain.specs.within.Places.{IsPlace};
 

@@ -1,3 +1,4 @@
+// Why a stage has no text: a refusal, or want of memory.
 ghost use Rattle.std.specs.Prelude.{◌≡◌};
 ghost use Rattle.ck_chain.specs.within.Refusing.{refused_of};
 ghost use Rattle.ck_chain.specs.declared.refused.Refused.TheVariants.{NoMemory as no_memory};

@@ -1,3 +1,4 @@
+// The tokens of a source, drawn one at a time for a parser.
 ghost use Rattle.std.specs.Prelude.{◌≡◌, ℕ, ◌+◌, ◌-◌, ◌^◌, ◌<◌, ◌≤◌, List, true, length, IfSome, slice_get};
 ghost use Rattle.rex_model.specs.Rules.{Rules};
 ghost use Rattle.rex_model.specs.TableMeaning.{tables_of};

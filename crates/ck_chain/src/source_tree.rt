@@ -1,8 +1,9 @@
+// The tree of a source, and its text.
 ghost use Rattle.std.specs.Prelude.{◌≡◌, ◌+◌, ◌^◌, ◌<◌, [], All, List, Some, length, IfSome};
 ghost use Rattle.cfg_model.specs.Derivation.{Forest};
 ghost use Rattle.rex_model.specs.RuleMeaning.{rules_of};
 ghost use Rattle.parse_driver.specs.declared.tokens.TokenRef.{TokenRef};
-ghost use Rattle.node_spec.specs.Nodes.{nodes_of};
+ghost use Rattle.node_model.specs.Nodes.{nodes_of};
 ghost use Rattle.tree_build.specs.Built.{IsReading, LiesInSource};
 ghost use Rattle.ck_chain.specs.Promise.{AreNodesFor, AreTools, answer_in};
 ghost use Rattle.ck_chain.specs.Treeing.{Treeing};
@@ -13,7 +14,7 @@ use crate::refused::Refused;
 use crate::toolset::Toolset;
 use cfg_model::NamedGrammar;
 use ck_base::Refusal;
-use node_spec::NodeSpec;
+use node_model::NodeSpec;
 use parse_driver::Step;
 use std::alloc::Global;
 use tree_build::{BuildError, build};

@@ -1,3 +1,4 @@
+// The text of a source's tokens.
 ghost use Rattle.std.specs.Prelude.{◌≡◌, ◌+◌, ◌^◌, ◌<◌, ◌++◌, length, All, IfSome, OnOk, Some, slice_get};
 ghost use Rattle.rex_model.specs.RuleMeaning.{rules_of};
 ghost use Rattle.rex_model.specs.TableMeaning.{tables_of};
@@ -102,9 +103,9 @@ fn push_end(out: &mut Vec<u8>, place: Place) -> Result<(), NoMemory>
 fn push_place(out: &mut Vec<u8>, place: Place) -> Result<(), NoMemory>
     ensures { OnOk result (out.new.items ≡ out.old.items ++ printed_place place) }
 {
-    push_decimal(out, place.line)?;
+    push_decimal(out, place.line as u64)?;
     out.push(b':')?;
-    push_decimal(out, place.col)?;
+    push_decimal(out, place.col as u64)?;
     out.push(b' ')?;
     Ok(())
 }

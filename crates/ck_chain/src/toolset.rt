@@ -1,3 +1,4 @@
+// What an accepted specification gives: scanner, parser and node types, as far as it has their sections.
 ghost use Rattle.std.specs.Prelude.{◌≡◌};
 ghost use Rattle.ck_base.specs.Found.{Finds};
 ghost use Rattle.ck_chain.specs.Answers.{Misses};
@@ -7,7 +8,7 @@ use crate::stage::Stage;
 use cfg_model::NamedGrammar;
 use ell_tables::PlainLl;
 use lalr_tables::PlainLr;
-use node_spec::NodeSpec;
+use node_model::NodeSpec;
 use rex_model::{ScanRules, ScanTables};
 use spec_text::Section;
 use value_store::Literals;

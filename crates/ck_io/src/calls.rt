@@ -1,3 +1,4 @@
+// A count of calls after which a device in memory fails.
 ghost use Rattle.std.specs.Prelude.{◌≡◌, ◌↔◌, IsTrue, Contains};
 ghost use Rattle.ck_io.specs.Faults.{one_more};
 

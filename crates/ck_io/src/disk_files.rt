@@ -1,3 +1,4 @@
+// Files of the disk: the few lines that are trusted.
 ghost use Rattle.std.specs.Prelude.{◌≡◌, ◌<◌, ◌≤◌, length, IfOk, OnOk, OnErr, None};
 ghost use Rattle.std.specs.Io.{ReadsAtMost};
 ghost use Rattle.ck_io.specs.Faults.{one_more};

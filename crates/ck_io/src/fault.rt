@@ -1,3 +1,4 @@
+// Why a file can't be loaded, and that a text can't be put.
 ghost use Rattle.std.specs.Prelude.{◌≡◌};
 ghost use Rattle.ck_io.specs.declared.fault.LoadError.TheVariants.{ReadFault, NoMemory};
 

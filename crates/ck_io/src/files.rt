@@ -1,3 +1,4 @@
+// The trait of files that are read by name, in parts.
 ghost use Rattle.std.specs.Prelude.{ℕ, ◌<◌, ◌≤◌, List, length, Option, IfOk, OnErr};
 ghost use Rattle.ck_io.specs.Contents.{ReadsAt, SameContents};
 ghost use Rattle.ck_io.specs.Faults.{Rose, NoneFell};

@@ -1,3 +1,4 @@
+// Named files in memory.
 ghost use Rattle.std.specs.Prelude.{◌≡◌, ◌<◌, [], length, OnOk, OnErr};
 ghost use Rattle.ck_io.specs.Contents.{IsPart, part_len};
 ghost use Rattle.ck_io.specs.Folder.{place_in, bytes_at, with_file};

@@ -1,3 +1,4 @@
+// A file loaded whole, up to a limit.
 ghost use Rattle.std.specs.Prelude.{◌≡◌, ◌≢◌, ◌+◌, ◌^◌, ◌<◌, ◌≤◌, length, take, IfOk, OnOk, IfSome};
 ghost use Rattle.ck_io.specs.Contents.{IsTold, IsLonger, FitsIn, SameContents};
 ghost use Rattle.ck_io.specs.Faults.{Rose, NoneFell};

@@ -1,3 +1,4 @@
+// Files in memory that fail at a chosen call.
 ghost use Rattle.std.specs.Prelude.{◌≡◌, ◌<◌, ◌≤◌, ◌↔◌, ℕ, List, length, IfOk, IfSome, IsErr, OnOk, OnErr, None};
 ghost use Rattle.ck_io.specs.Contents.{AddsFile, ReadsAt, SameContents, part_len};
 ghost use Rattle.ck_io.specs.Faults.{one_more, SameFaults, NoneFell};

@@ -1,3 +1,4 @@
+// Files in memory of which each read succeeds.
 ghost use Rattle.std.specs.Prelude.{◌≡◌, ◌<◌, ℕ, List, [], length, IfOk, IfSome, OnOk, OnErr, IsOk, Some};
 ghost use Rattle.ck_io.specs.Contents.{AddsFile, ReadsAt, part_len};
 ghost use Rattle.ck_io.specs.NeverFails.{contents_or_empty};

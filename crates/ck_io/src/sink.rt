@@ -1,3 +1,4 @@
+// The trait of what takes the bytes of an output.
 ghost use Rattle.std.specs.Prelude.{◌≡◌, ℕ, ◌<◌, ◌≤◌, List, length, take, Option, IfOk, OnErr};
 ghost use Rattle.std.specs.Io.KnownBytes.{Appends};
 ghost use Rattle.ck_io.specs.Faults.{Rose};

@@ -1,3 +1,4 @@
+// Standard output and standard error as sinks: the few lines that are trusted.
 ghost use Rattle.std.specs.Prelude.{◌≡◌, ◌<◌, ◌≤◌, length, IfOk, OnOk, OnErr, None};
 ghost use Rattle.std.specs.Io.KnownBytes.{WriteAppends};
 ghost use Rattle.ck_io.specs.Faults.{one_more};

@@ -1,3 +1,4 @@
+// Laws of the top call, on empty functions: a run has one answer at most, and not none.
 ghost use Rattle.std.specs.Prelude.{◌≡◌, ℕ, List, map, string_bytes};
 ghost use Rattle.ck_base.specs.Found.{HasNo};
 ghost use Rattle.ck_chain.specs.Outcome.{Outcome};

@@ -1,3 +1,4 @@
+// Which stage a command's word names.
 ghost use Rattle.std.specs.Prelude.{◌≡◌};
 ghost use Rattle.ck_base.specs.Found.{Finds};
 ghost use Rattle.ck_tool.specs.Words.{name_of};

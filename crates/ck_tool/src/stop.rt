@@ -1,3 +1,4 @@
+// Why a run stops before its output.
 ghost use Rattle.std.specs.Prelude.{◌≡◌};
 ghost use Rattle.ck_tool.specs.within.Stops.{stop_of};
 

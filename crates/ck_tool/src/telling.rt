@@ -1,3 +1,4 @@
+// An answer told: output, line of a refusal, status.
 ghost use Rattle.std.specs.Prelude.{◌≤◌, ◌<◌, length, take, IfErr, OnOk, OnErr};
 ghost use Rattle.std.specs.Io.KnownBytes.{Appends};
 ghost use Rattle.ck_io.specs.Faults.{Rose};

@@ -1,3 +1,4 @@
+// The top call: words, files, stage, output, status.
 ghost use Rattle.std.specs.Prelude.{◌≡◌, ◌+◌, ◌^◌, ◌<◌, ◌≤◌, ◌⊎◌, ℕ, List, length, map, string_bytes, IfOk, IfErr, OnOk};
 ghost use Rattle.ck_io.specs.Contents.{IsLonger, IsTold, SameContents};
 ghost use Rattle.ck_io.specs.Faults.{Rose, NoneFell};

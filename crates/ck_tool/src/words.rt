@@ -1,3 +1,4 @@
+// The words of a command line, and whether they are right.
 ghost use Rattle.std.specs.Prelude.{◌↔◌, IsTrue, MatchOption, map, string_bytes};
 ghost use Rattle.ck_tool.specs.Words.{IsFileName, AreRight};
 ghost use Rattle.ck_tool.specs.within.Stops.{IsAsked};

@@ -1,3 +1,4 @@
+// What a plain LL(1) table answers.
 ghost use Rattle.ell_tables.specs.Table.{answer_of, grammar_of, numbers_of};
 
 use crate::plain::PlainLl;

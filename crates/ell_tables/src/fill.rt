@@ -1,3 +1,4 @@
+// Cells of the LL(1) table filled rule by rule, and the first conflict in their order.
 ghost use Rattle.std.specs.Prelude.{◌≡◌, ◌<◌, ◌≤◌, ◌+◌, ◌*◌, ℕ, length, Option, ◌↔◌, IsTrue, ◌^◌, All, IfOk, slice_index, slice_set};
 ghost use Rattle.ell_tables.specs.within.Fill.{IsLesser, Precedes, Filled, Seen, cell_at};
 

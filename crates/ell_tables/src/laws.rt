@@ -1,3 +1,4 @@
+// A law, on an empty function: a grammar has one LL(1) table or one refusal.
 ghost use Rattle.std.specs.Prelude.{◌≡◌, ◌≢◌};
 ghost use Rattle.cfg_model.specs.Cfg.{IsGrammar};
 ghost use Rattle.ell_tables.specs.Promise.{HasTable, IsRefused};

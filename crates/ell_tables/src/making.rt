@@ -1,3 +1,4 @@
+// The LL(1) table of a grammar, or its first refusal.
 ghost use Rattle.std.specs.Prelude.{◌≡◌, ◌<◌, ◌≤◌, ◌+◌, ◌*◌, ℕ, [], ◌∷◌, length, IfOk, IfErr, All};
 ghost use Rattle.cfg_model.specs.Cfg.{IsGrammar, IsSymbol};
 ghost use Rattle.cfg_model.specs.LlTables.{IsLl, IsPrediction};

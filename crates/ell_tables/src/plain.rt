@@ -1,3 +1,4 @@
+// The plain LL(1) table: one cell for each nonterminal and token.
 ghost use Rattle.std.specs.Prelude.{◌≡◌, ◌+◌, ◌*◌, vec_len};
 
 use cfg_model::{Grammar, LeftRanks};

@@ -1,3 +1,4 @@
+// Refusals of a grammar for LL(1), in their order.
 ghost use Rattle.std.specs.Prelude.{◌≡◌};
 ghost use Rattle.ell_tables.specs.declared.refusal.EllError.TheVariants.{NoMemory};
 

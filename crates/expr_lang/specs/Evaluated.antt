@@ -47,7 +47,7 @@ pub record EvaluatedAll (w : Tokens) (s l : List ℕ) (old new : List Cell) (env
 
 -- a function was applied to values
 pub record Applied (w : Tokens) (s l : List ℕ) (old new : List Cell) (f : Function) (vs : List Value) (v : Value) : Type 0 where
-  pub typed : (k : ℕ → Bool) → IsOf k new v (gives f)
+  pub typed : (k : ℕ → ℕ → Bool) → IsOf k new v (gives f)
   pub is : pure_of s l new v ≡ applied w f (map (pure_of s l old) vs)
   pub kept : Keeps old new
 
@@ -57,17 +57,19 @@ cells_among [] = []
 cells_among (value.Made c ∷ vs) = c ∷ cells_among vs
 cells_among (_ ∷ vs) = cells_among vs
 
+-- whether a value is a made node
 abbrev pub is_made_cell : Value → Bool
 is_made_cell (value.Made c) = true
 is_made_cell _ = false
 
+-- the values among these that aren't made nodes, in their order
 abbrev pub others_among : List Value → List Value
 others_among [] = []
 others_among (v ∷ vs) = if is_made_cell v then others_among vs else v ∷ others_among vs
 
 -- values that make a node
 pub record Parts (cells : List Cell) (vs : List Value) : Type 0 where
-  pub sources : ℕ → Bool
+  pub sources : ℕ → ℕ → Bool
   pub types : List ValType
   pub children : ℕ
   pub fields : ℕ
@@ -87,10 +89,12 @@ abbrev pub GivesValue : Texts → List Text → List (ℕ × ℕ) → Store → 
 GivesValue texts spans places old new env e v =
     Evaluated (tokens_in texts spans places) texts.source.now texts.literals.now (cells_of old.units) (cells_of new.units) env e v
 
+-- expressions have these values over two states of a store, the second one after
 abbrev pub GivesValues : Texts → List Text → List (ℕ × ℕ) → Store → Store → List Value → Expressions → List Value → Type 0
 GivesValues texts spans places old new env es vs =
     EvaluatedAll (tokens_in texts spans places) texts.source.now texts.literals.now (cells_of old.units) (cells_of new.units) env es vs
 
+-- a function of these values gives this value over two states of a store, the second one after
 abbrev pub Applies : Texts → List Text → List (ℕ × ℕ) → Store → Store → Function → List Value → Value → Type 0
 Applies texts spans places old new f vs v =
     Applied (tokens_in texts spans places) texts.source.now texts.literals.now (cells_of old.units) (cells_of new.units) f vs v

@@ -12,6 +12,7 @@ use Rattle.expr_lang.specs.declared.expr.Expr.{Expr}
 use Rattle.expr_lang.specs.declared.expr.Expr.TheOpen.{Expr-F}
 use Rattle.expr_lang.specs.declared.expr.Expr.TheFolds.{fold-Expr}
 
+-- a list of expressions as the arguments of one
 abbrev pub expressions_of : List Expression → Expressions
 expressions_of [] = no_expressions
 expressions_of (e ∷ es) = and_expression e (expressions_of es)
@@ -29,6 +30,7 @@ node_meaning source literals (Expr-F.If c a b) = if_then c.now a.now b.now
 node_meaning source literals (Expr-F.Call f parts) = call f (expressions_of parts.now)
 node_meaning source literals (Expr-F.Make n parts) = make n (expressions_of parts.now)
 
+-- the pure expression of one whose literals are spans
 abbrev pub meaning : List ℕ → List ℕ → Expr → Expression
 meaning source literals = fold-Expr Expression (node_meaning source literals)
 
@@ -36,14 +38,15 @@ meaning source literals = fold-Expr Expression (node_meaning source literals)
 abbrev pub tokens_of : List ℕ → List ℕ → List Text → List (ℕ × ℕ) → Tokens
 tokens_of source literals spans places = record { texts = map (text_of source literals) spans; places = places }
 
--- a scope of the program; which families are those of the source tree it doesn't say
-abbrev pub context_of : Scope → (ℕ → Bool) → Context
+-- a scope of the program; which nodes of the source tree are of which family it doesn't say
+abbrev pub context_of : Scope → (ℕ → ℕ → Bool) → Context
 context_of scope sources = record { vars = scope.vars.now; makers = scope.makers.now; sources = sources }
 
 -- the meaning of an expression whose strings lie in these texts
 abbrev pub meant : Texts → Expr → Expression
 meant texts e = meaning texts.source.now texts.literals.now e
 
+-- the pure expressions of those of the program
 abbrev pub meant_all : Texts → List Expr → Expressions
 meant_all texts es = expressions_of (map (meaning texts.source.now texts.literals.now) es)
 
@@ -52,8 +55,8 @@ abbrev pub tokens_in : Texts → List Text → List (ℕ × ℕ) → Tokens
 tokens_in texts spans places = tokens_of texts.source.now texts.literals.now spans places
 
 -- the type that was found is one of the expression; None where it has none. Whatever texts its strings
--- lie in and whichever families are of the source tree, the answer is the same
+-- lie in and whatever the source tree is, the answer is the same
 abbrev pub IsTypeOf : Scope → Expr → Option ValType → Type 0
-IsTypeOf scope e found = (source literals : List ℕ) (sources : ℕ → Bool)
+IsTypeOf scope e found = (source literals : List ℕ) (sources : ℕ → ℕ → Bool)
     → MatchOption found ((t : ValType) → HasType (context_of scope sources) (meaning source literals e) t → ⊥)
     (HasType (context_of scope sources) (meaning source literals e))

@@ -16,6 +16,7 @@ pure_field s l (value.Bool b) = bool b
 pure_field s l (value.Text t) = text (text_of s l t)
 pure_field s l _ = int (pos 0)
 
+-- fields as pure values: texts by their bytes
 abbrev pub pure_fields : List ℕ → List ℕ → List Value → PureValues
 pure_fields s l [] = no_pure
 pure_fields s l (v ∷ vs) = and_pure (pure_field s l v) (pure_fields s l vs)
@@ -26,6 +27,7 @@ pure_trees s l no_trees = no_pure
 pure_trees s l (and_trees (made ty children fields) ts) =
     and_pure (node ty (pure_trees s l children) (pure_fields s l fields)) (pure_trees s l ts)
 
+-- a made tree as a pure value
 abbrev pub pure_tree : List ℕ → List ℕ → MadeTree → PureValue
 pure_tree s l t = node (type_of t) (pure_trees s l (children_of t)) (pure_fields s l (fields_of t))
 

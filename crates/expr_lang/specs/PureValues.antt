@@ -17,26 +17,32 @@ mutual
     no_pure : PureValues
     and_pure : PureValue → PureValues → PureValues
 
+-- the number of an int, else 0
 abbrev pub int_in : PureValue → ℤ
 int_in (int z) = z
 int_in _ = pos 0
 
+-- the truth of a bool, else false
 abbrev pub bool_in : PureValue → Bool
 bool_in (bool b) = b
 bool_in _ = false
 
+-- the bytes of a text, else none
 abbrev pub text_in : PureValue → List ℕ
 text_in (text bytes) = bytes
 text_in _ = []
 
+-- the entries of a map, newest first, else none
 abbrev pub map_in : PureValue → List Entry
 map_in (map_of es) = es
 map_in _ = []
 
+-- the number of a token, else 0
 abbrev pub token_in : PureValue → ℕ
 token_in (token k) = k
 token_in _ = 0
 
+-- the value at a place, else the int 0
 abbrev pub nth : List PureValue → ℕ → PureValue
 nth vs i = unwrap_or (slice_get vs i) (int (pos 0))
 
@@ -46,6 +52,7 @@ nodes_in [] = no_pure
 nodes_in (node ty children fields ∷ vs) = and_pure (node ty children fields) (nodes_in vs)
 nodes_in (_ ∷ vs) = nodes_in vs
 
+-- the values among these that aren't nodes, in their order: the fields of a maker
 abbrev pub others_in : List PureValue → PureValues
 others_in [] = no_pure
 others_in (node ty children fields ∷ vs) = others_in vs

@@ -1,5 +1,6 @@
 -- Which type an expression has, if any.
-use Rattle.std.specs.Prelude.{◌≡◌, ℕ, ℤ, List, [], ◌∷◌, Bool, Option, Some, None, slice_get, if◌then◌else◌, nat_eq}
+use Rattle.std.specs.Prelude.{◌≡◌, ℕ, ℤ, List, [], ◌∷◌, Bool, false, Option, Some, None, slice_get, if◌then◌else◌, nat_eq}
+use Rattle.value_store.specs.PlainTypes.{IsPlain}
 use Rattle.value_store.specs.declared.value.ValType.{ValType}
 use Rattle.value_store.specs.declared.value.ValType.TheVariants as ty
 use Rattle.expr_lang.specs.declared.expr.Op.{Op}
@@ -9,23 +10,20 @@ use Rattle.expr_lang.specs.declared.expr.Function.TheVariants as function
 use Rattle.expr_lang.specs.declared.expr.Maker.{Maker}
 use Rattle.expr_lang.specs.Expression.{Expression, Expressions, number, truth, string, var, negative, negated, binary, if_then, call, make, no_expressions, and_expression}
 
--- what an expression stands in: the types of variables, the makers, and the families whose nodes are those of the source
--- tree and aren't made
+-- what an expression stands in: the types of variables, the makers, and which nodes of the source tree are of which family
 pub record Context : Type 0 where
   pub vars : List ValType
   pub makers : List Maker
-  pub sources : ℕ → Bool
+  pub sources : ℕ → ℕ → Bool
+
+-- no node of the source tree is of the family: its nodes are made
+abbrev pub IsMadeFamily : (ℕ → ℕ → Bool) → ℕ → Type 0
+IsMadeFamily sources f = (n : ℕ) → sources n f ≡ false
 
 -- the first maker of a type
 abbrev pub maker_of : List Maker → ℕ → Option Maker
 maker_of [] ty = None
 maker_of (m ∷ ms) ty = if nat_eq m.ty ty then Some m else maker_of ms ty
-
--- a type whose values may be compared
-pub data IsPlain : ValType → Type 0 where
-  plain_int : IsPlain ty.Int
-  plain_bool : IsPlain ty.Bool
-  plain_text : IsPlain ty.Text
 
 -- the operator takes two operands of a type, and gives another
 pub data Takes : Op → ValType → ValType → Type 0 where
@@ -55,6 +53,7 @@ takes function.Get = ty.Map ∷ ty.Text ∷ ty.Int ∷ []
 takes function.Has = ty.Map ∷ ty.Text ∷ []
 takes function.Size = ty.Map ∷ []
 
+-- the type of what a function gives
 abbrev pub gives : Function → ValType
 gives function.Text = ty.Text
 gives function.Line = ty.Int

@@ -9,6 +9,7 @@ abbrev pub own_units : Function → ℕ
 own_units function.Put = 1
 own_units _ = 0
 
+-- how many expressions a list has
 abbrev pub count_of : Expressions → ℕ
 count_of no_expressions = 0
 count_of (and_expression a more) = count_of more + 1

@@ -45,9 +45,11 @@ joined op.Times a b = int (int_wrapping_mul w64 (int_in a) (int_in b))
 joined op.Quotient a b = int (quotient (int_in a) (int_in b))
 joined op.Remainder a b = int (remainder (int_in a) (int_in b))
 
+-- the bytes from `0` to `9`
 abbrev pub is_digit : ℕ → Bool
 is_digit b = nat_le 48 b && nat_le b 57
 
+-- bytes that are all digits; none are too
 abbrev pub all_digits : List ℕ → Bool
 all_digits [] = true
 all_digits (b ∷ bs) = is_digit b && all_digits bs
@@ -67,9 +69,11 @@ pub record Tokens : Type 0 where
   pub texts : List (List ℕ)
   pub places : List (ℕ × ℕ)
 
+-- the text of a token, else none
 abbrev pub text_at : Tokens → ℕ → List ℕ
 text_at tokens k = unwrap_or (slice_get tokens.texts k) []
 
+-- the line and column of a token, else 0 and 0
 abbrev pub place_at : Tokens → ℕ → ℕ × ℕ
 place_at tokens k = unwrap_or (slice_get tokens.places k) (0, 0)
 

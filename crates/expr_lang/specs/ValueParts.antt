@@ -17,18 +17,22 @@ abbrev pub int_part : Value → ℤ
 int_part (value.Int z) = z
 int_part _ = pos 0
 
+-- the truth of a bool, else false
 abbrev pub bool_part : Value → Bool
 bool_part (value.Bool b) = b
 bool_part _ = false
 
+-- the cell of a map, else 0
 abbrev pub map_part : Value → ℕ
 map_part (value.Map m) = m
 map_part _ = 0
 
+-- the number of a token, else 0
 abbrev pub token_part : Value → ℕ
 token_part (value.Token k) = k
 token_part _ = 0
 
+-- the span of a text, else an empty one
 abbrev pub text_part : Value → Text
 text_part (value.Text t) = t
 text_part _ = record { of = Source; from = 0; to = 0 }

@@ -1,3 +1,4 @@
+// Functions and makers applied to values in a store.
 ghost use Rattle.std.specs.Prelude.{◌≡◌, ℕ, ◌+◌, ◌≤◌, ◌<◌, map, List, [], IfOk, OnOk, IsOk, length, slice_get, slice_index_or, take, pos, unwrap_or, Bool, true, ◌%◌, ◌^◌};
 ghost use Rattle.value_store.specs.Cells.{cells_of};
 ghost use Rattle.value_store.specs.Texts.{text_of};
@@ -22,7 +23,7 @@ pub fn apply(
     spans: &[Text],
     places: &[(u32, u32)],
 ) -> Result<Value, NoMemory>
-    requires { (k : ℕ → Bool) × AreOf k (cells_of cells.old.units) values.now (takes function) }
+    requires { (k : ℕ → ℕ → Bool) × AreOf k (cells_of cells.old.units) values.now (takes function) }
     ensures ok { IfOk result (Applies texts.now spans.now places.now cells.old cells.new
         function values.now) }
     ensures kept { KeepsCells cells.old cells.new }

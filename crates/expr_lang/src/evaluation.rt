@@ -1,12 +1,14 @@
+// An expression's value in a store, without recursion beyond its nesting.
 ghost use Rattle.std.specs.Prelude.{◌≡◌, ◌+◌, ◌≤◌, ◌<◌, IfOk, OnOk, IsOk, length, slice_get, take, Some};
 ghost use Rattle.value_store.specs.Cells.{cells_of};
+ghost use Rattle.expr_lang.specs.Expression.{call, make};
 ghost use Rattle.expr_lang.specs.Units.{units_of, units_of_all};
 ghost use Rattle.expr_lang.specs.Meaning.{meant, meant_all};
 ghost use Rattle.expr_lang.specs.Evaluated.{Ready, ReadyAll, GivesValue, GivesValues, KeepsCells};
 ghost use Rattle.value_store.specs.declared.value.Value.TheVariants as value;
 
 use crate::application::{apply, make};
-use crate::expr::{Expr, Op};
+use crate::expr::{Expr, Function};
 use crate::operators::{bool_of, join, negate, negated};
 use value_store::{Cells, NoMemory, Text, Texts, Value};
 
@@ -56,18 +58,62 @@ pub fn eval(
             }
         }
         Expr::Call(function, args) => {
-            let mut values = [Value::Int(0); 16];
-            let count = args.len();
-            eval_all(args, env, texts, cells, spans, places, &mut values)?;
-            apply(*function, &values[..count], texts, cells, spans, places)
+            eval_call(*function, args, env, texts, cells, spans, places)
         }
-        Expr::Make(ty, args) => {
-            let mut values = [Value::Int(0); 16];
-            let count = args.len();
-            eval_all(args, env, texts, cells, spans, places, &mut values)?;
-            make(*ty, &values[..count], cells)
-        }
+        Expr::Make(ty, args) => eval_make(*ty, args, env, texts, cells, spans, places),
     }
+}
+
+/// The value of the function at these arguments.
+#[cycle(eval)]
+fn eval_call(
+    function: Function,
+    args: &[Expr],
+    env: &[Value],
+    texts: &Texts,
+    cells: &mut Cells,
+    spans: &[Text],
+    places: &[(u32, u32)],
+) -> Result<Value, NoMemory>
+    requires { Ready (cells_of cells.old.units) env.now (call function (meant_all texts.now args.now)) }
+    ensures ok { IfOk result (GivesValue texts.now spans.now places.now cells.old cells.new
+        env.now (call function (meant_all texts.now args.now))) }
+    ensures kept { KeepsCells cells.old cells.new }
+    ensures spare { OnOk result (cells.old.spare
+        ≤ cells.new.spare + units_of (call function (meant_all texts.now args.now))) }
+    ensures room { units_of (call function (meant_all texts.now args.now)) ≤ cells.old.spare
+        → IsOk result }
+{
+    let mut values = [Value::Int(0); 16];
+    let count = args.len();
+    eval_all(args, env, texts, cells, spans, places, &mut values)?;
+    apply(function, &values[..count], texts, cells, spans, places)
+}
+
+/// The node of the type over these items.
+#[cycle(eval)]
+fn eval_make(
+    ty: u32,
+    args: &[Expr],
+    env: &[Value],
+    texts: &Texts,
+    cells: &mut Cells,
+    spans: &[Text],
+    places: &[(u32, u32)],
+) -> Result<Value, NoMemory>
+    requires { Ready (cells_of cells.old.units) env.now (make ty (meant_all texts.now args.now)) }
+    ensures ok { IfOk result (GivesValue texts.now spans.now places.now cells.old cells.new
+        env.now (make ty (meant_all texts.now args.now))) }
+    ensures kept { KeepsCells cells.old cells.new }
+    ensures spare { OnOk result (cells.old.spare
+        ≤ cells.new.spare + units_of (make ty (meant_all texts.now args.now))) }
+    ensures room { units_of (make ty (meant_all texts.now args.now)) ≤ cells.old.spare
+        → IsOk result }
+{
+    let mut values = [Value::Int(0); 16];
+    let count = args.len();
+    eval_all(args, env, texts, cells, spans, places, &mut values)?;
+    make(ty, &values[..count], cells)
 }
 
 /// The values of the arguments, from the last to the first, at the front of `into`.

@@ -1,3 +1,4 @@
+// Expressions, their operators and functions, and scopes.
 use value_store::{Text, ValType};
 
 /// The operators `||`, `&&`, `==`, `!=`, `<`, `<=`, `>`, `>=`, `+`, `-`, `*`, `/` and `%`, in this

@@ -1,3 +1,4 @@
+// Operators on values.
 ghost use Rattle.std.specs.Prelude.{◌≡◌, not, [], false};
 ghost use Rattle.std.specs.Int.{int_wrapping_neg, w64};
 ghost use Rattle.value_store.specs.declared.value.Value.TheVariants as value;

@@ -1,3 +1,4 @@
+// The value of a plain expression, without a store.
 ghost use Rattle.std.specs.Prelude.{◌≡◌, ◌≤◌, ◌<◌, List, length, slice_get, Some};
 ghost use Rattle.value_store.specs.Cells.{Cell};
 ghost use Rattle.value_store.specs.Maps.{first_with};

@@ -1,3 +1,4 @@
+// The type of an expression in a scope.
 ghost use Rattle.std.specs.Prelude.{◌≡◌, ℕ, map, List, Bool, length, take, MatchOption, ◌↔◌, ◌≤◌, ◌<◌, IsTrue, slice_get, Some, None};
 ghost use Rattle.expr_lang.specs.Typing.{HasType, HaveTypes, Takes, takes, gives, maker_of};
 ghost use Rattle.expr_lang.specs.Meaning.{IsTypeOf, meaning, expressions_of, context_of};
@@ -8,7 +9,7 @@ use crate::expr::{Expr, Function, Maker, Op, Scope};
 use value_store::ValType;
 
 /// The type of the expression in the scope; None exactly where it has none. Whatever texts its
-/// strings lie in and whichever families are of the source tree, the answer is the same.
+/// strings lie in and whatever the source tree is, the answer is the same.
 #[cycle(typed)]
 pub fn typed(e: &Expr, scope: &Scope) -> Option<ValType>
     ensures { IsTypeOf scope.now e.now result }
@@ -75,7 +76,7 @@ pub fn typed(e: &Expr, scope: &Scope) -> Option<ValType>
 /// Whether the expression has the type.
 #[cycle(typed)]
 fn is_typed(e: &Expr, scope: &Scope, wanted: ValType) -> bool
-    ensures { (source literals : List ℕ) (sources : ℕ → Bool) → IsTrue result
+    ensures { (source literals : List ℕ) (sources : ℕ → ℕ → Bool) → IsTrue result
         ↔ HasType (context_of scope.now sources) (meaning source literals e.now) wanted }
 {
     match typed(e, scope) {
@@ -87,7 +88,7 @@ fn is_typed(e: &Expr, scope: &Scope, wanted: ValType) -> bool
 /// Whether the arguments have the types.
 #[cycle(typed)]
 fn are_typed(args: &[Expr], scope: &Scope, wanted: &[ValType]) -> bool
-    ensures { (source literals : List ℕ) (sources : ℕ → Bool) → IsTrue result
+    ensures { (source literals : List ℕ) (sources : ℕ → ℕ → Bool) → IsTrue result
         ↔ HaveTypes (context_of scope.now sources)
         (expressions_of (map (meaning source literals) args.now)) wanted.now }
 {

@@ -1,3 +1,4 @@
+// How many units of a store an expression's value may take.
 ghost use Rattle.std.specs.Prelude.{◌≡◌, ℕ, List, map, min};
 ghost use Rattle.expr_lang.specs.Units.{units_of, units_of_all, own_units};
 ghost use Rattle.expr_lang.specs.Meaning.{meaning, expressions_of};

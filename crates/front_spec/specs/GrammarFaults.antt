@@ -6,6 +6,7 @@ use Rattle.ck_base.specs.declared.fault.Kind.TheVariants.{Limit, Twice, Unknown}
 use Rattle.spec_text.specs.Declares.{Declared, Notation}
 use Rattle.front_spec.specs.GrammarShapes.{SaidProduction, ProductionLine}
 
+-- the labels of productions, in the order of their lines
 abbrev pub labels_in : List (Declared SaidProduction) → List (List ℕ)
 labels_in ds = map (λ d. d.said.label) ds
 

@@ -45,6 +45,7 @@ pub record FirstGrammarFault (file : List ℕ) (tokens : List (List ℕ)) (line 
   pub section : HasGrammar file ell lines
   pub fault : FirstFault (judged_grammar tokens lines) line kind
 
+-- the section's first fault, or that memory was wanted
 abbrev pub IsGrammarFault : List ℕ → List (List ℕ) → SpecFault → Type 0
 IsGrammarFault file tokens (Bad line kind) = FirstGrammarFault file tokens line kind
 IsGrammarFault file tokens NoMemory = Unit {0}

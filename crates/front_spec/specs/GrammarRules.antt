@@ -18,6 +18,7 @@ abbrev pub symbol_or : Option ℕ → ℕ → Sym
 symbol_or (Some t) n = T t
 symbol_or None n = N n
 
+-- a name's symbol: a token if it is one, else a nonterminal
 abbrev pub symbol_by : List (List ℕ) → List (List ℕ) → List ℕ → Sym
 symbol_by tokens nonterminals name = symbol_or (number_of tokens name) (known_number nonterminals name)
 

@@ -19,6 +19,7 @@ use Rattle.front_spec.specs.declared.production.Production.{Production}
 abbrev pub produced : Production → SaidProduction
 produced p = record { label = p.label.now; left = p.left.now; right = map bytes_of p.right.items }
 
+-- the pure form of a production
 abbrev pub produced_by : Production → Declared SaidProduction
 produced_by p = record { number = p.number; said = produced p }
 

@@ -27,6 +27,7 @@ pub record FirstRexFault (file : List ℕ) (line : ℕ) (kind : Kind) : Type 0 w
   pub section : HasSection file Rex lines
   pub fault : FirstFault (judged rex lines.inside) line kind
 
+-- the section's first fault, or that memory was wanted
 abbrev pub IsRexFault : List ℕ → SpecFault → Type 0
 IsRexFault file (Bad line kind) = FirstRexFault file line kind
 IsRexFault file NoMemory = Unit {0}

@@ -26,16 +26,19 @@ pub data Sign : Type 0 where
   a_plus : Sign
   a_question : Sign
 
+-- how a sign of repetition is written
 abbrev pub glyph_of : Sign → Lexeme
 glyph_of a_star = sign (codes "*")
 glyph_of a_plus = sign (codes "+")
 glyph_of a_question = sign (codes "?")
 
+-- what a sign of repetition makes of an expression
 abbrev pub repeated : Sign → Re → Re
 repeated a_star = star
 repeated a_plus = plus
 repeated a_question = optional
 
+-- an expression with a sign behind it, one level deeper
 abbrev pub with_sign : Sign → Written → Written
 with_sign s w = record { re = repeated s w.re; nesting = w.nesting + 1 }
 
@@ -50,10 +53,12 @@ pub record Limited (P : Part Written) (tokens : List Lexeme) (w : Written) (rest
   pub is : P tokens w rest
   pub within : w.nesting ≤ 64
 
+-- the greatest nesting among these, 0 for none
 abbrev pub deepest : List Written → ℕ
 deepest [] = 0
 deepest (one ∷ more) = max one.nesting (deepest more)
 
+-- the regular expression of a written one
 abbrev pub meaning_of : Written → Re
 meaning_of w = w.re
 
@@ -63,21 +68,27 @@ joined whole [] n = record { re = whole []; nesting = n + 1 }
 joined whole (one ∷ []) n = record { re = one; nesting = n }
 joined whole (one ∷ next ∷ more) n = record { re = whole (one ∷ next ∷ more); nesting = n + 1 }
 
+-- pieces one behind the other
 abbrev pub row_of : List Written → Written
 row_of pieces = joined sequence_of (map meaning_of pieces) (deepest pieces)
 
+-- rows as alternatives
 abbrev pub choice_of : List Written → Written
 choice_of rows = joined alternative_of (map meaning_of rows) (deepest rows)
 
+-- an expression in parentheses, one level deeper
 abbrev pub group : Written → Written
 group inner = record { re = inner.re; nesting = inner.nesting + 1 }
 
+-- an atom with any signs behind it, within the limit of nesting
 abbrev pub PieceOver : Part Written → Part Written
 PieceOver Atom = Limited (Signed Atom)
 
+-- one piece or more
 abbrev pub RowOver : Part Written → Part Written
 RowOver Atom = Seen row_of (Some1 (PieceOver Atom))
 
+-- rows with bars between, within the limit of nesting
 abbrev pub RegexOver : Part Written → Part Written
 RegexOver Atom = Limited (Seen choice_of (ListBy (sign (codes "|")) (RowOver Atom)))
 
@@ -90,6 +101,7 @@ AtomIn (suc depth) = Or Leaf (Seen group (Behind (sign (codes "(")) (Before (Reg
 abbrev pub RegexIn : ℕ → Part Written
 RegexIn depth = RegexOver (AtomIn depth)
 
+-- a regular expression of nesting at most 64
 abbrev pub IsRegex : Part Written
 IsRegex = RegexIn 64
 

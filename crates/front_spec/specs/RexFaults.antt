@@ -12,6 +12,7 @@ abbrev pub add_state : Saying → List (List ℕ) → List (List ℕ)
 add_state (state name) names = name ∷ names
 add_state (rule said) names = names
 
+-- the states that lines declare, in their order
 abbrev pub states_in : List (Declared Saying) → List (List ℕ)
 states_in [] = []
 states_in (d ∷ ds) = add_state d.said (states_in ds)
@@ -25,10 +26,12 @@ abbrev pub context_positions : Option Re → ℕ
 context_positions None = 0
 context_positions (Some context) = position_count context
 
+-- how many positions a line's rule has, its end mark among them
 abbrev pub positions_of : Saying → ℕ
 positions_of (state name) = 0
 positions_of (rule said) = position_count said.body + context_positions said.context + 1
 
+-- how many positions all rules have
 abbrev pub all_positions : List (Declared Saying) → ℕ
 all_positions [] = 0
 all_positions (d ∷ ds) = positions_of d.said + all_positions ds

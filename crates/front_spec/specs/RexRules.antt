@@ -12,6 +12,7 @@ abbrev pub add_rule : Saying → List SaidRule → List SaidRule
 add_rule (state name) rules = rules
 add_rule (rule said) rules = said ∷ rules
 
+-- the rules that lines declare, in their order
 abbrev pub rules_in : List (Declared Saying) → List SaidRule
 rules_in [] = []
 rules_in (d ∷ ds) = add_rule d.said (rules_in ds)
@@ -21,6 +22,7 @@ abbrev pub add_token : Option (List ℕ) → List (List ℕ) → List (List ℕ)
 add_token None names = names
 add_token (Some name) names = name ∷ names
 
+-- the names of tokens that rules give, each once, in their order
 abbrev pub tokens_in : List SaidRule → List (List ℕ)
 tokens_in [] = []
 tokens_in (said ∷ rules) = add_token said.token (tokens_in rules)
@@ -30,6 +32,7 @@ abbrev pub number_in : List (List ℕ) → Option (List ℕ) → Option ℕ
 number_in names None = None
 number_in names (Some name) = number_of names name
 
+-- whether there is a number and it is this one
 abbrev pub is_number : Option ℕ → ℕ → Bool
 is_number None k = false
 is_number (Some n) k = n == k

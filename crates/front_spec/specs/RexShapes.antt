@@ -37,9 +37,11 @@ Produces = Behind (word (codes "TOKEN")) (Then Name (Opt Go))
 abbrev pub Skips : Part (Option (List ℕ))
 Skips = Behind (word (codes "SKIP")) (Opt Go)
 
+-- what a rule gives: a token, and the state behind it, if any
 abbrev pub with_token : List ℕ × Option (List ℕ) → Option (List ℕ) × Option (List ℕ)
 with_token both = (Some both.0, both.1)
 
+-- a rule that skips, with the state behind it, if any
 abbrev pub without_token : Option (List ℕ) → Option (List ℕ) × Option (List ℕ)
 without_token next = (None, next)
 

@@ -17,22 +17,27 @@ use Rattle.front_spec.specs.declared.declaration.Says.{Says}
 use Rattle.front_spec.specs.declared.declaration.Says.TheVariants.{State, Rule}
 use Rattle.front_spec.specs.declared.declaration.Declaration.{Declaration}
 
+-- the pure form of an expression that was read
 abbrev pub written_of : Read → Written
 written_of read = record { re = meaning read.body; nesting = read.nesting }
 
+-- the sign that a repetition stands for
 abbrev pub sign_in : Repeat → Sign
 sign_in Star = a_star
 sign_in Plus = a_plus
 sign_in Opt = a_question
 
+-- the bytes of names, where there are names
 abbrev pub names_in : Option (Vec (Bor (List ℕ)) Global) → Option (List (List ℕ))
 names_in None = None
 names_in (Some names) = Some (map bytes_of names.items)
 
+-- the expression of a context, where there is one
 abbrev pub regex_in : Option Regex → Option Re
 regex_in None = None
 regex_in (Some r) = Some (meaning r)
 
+-- the pure form of a declared rule
 abbrev pub said_rule : DeclaredRule → SaidRule
 said_rule declared = record {
   states = names_in declared.states;
@@ -42,9 +47,11 @@ said_rule declared = record {
   next = name_in declared.next;
 }
 
+-- the pure form of what a line says
 abbrev pub saying : Says → Saying
 saying (State name) = state name.now
 saying (Rule declared) = rule (said_rule declared)
 
+-- the pure form of a declaration
 abbrev pub declared_by : Declaration → Declared Saying
 declared_by d = record { number = d.number; said = saying d.says }

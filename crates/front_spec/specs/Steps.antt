@@ -24,10 +24,12 @@ pub record IsMissing (known : List (List ℕ)) (names : List (List ℕ)) : Type 
   pub among : Contains names name
   pub unknown : Contains known name → ⊥
 
+-- a list of states is there, and one of it isn't declared
 abbrev pub ListsMissing : List (List ℕ) → Option (List (List ℕ)) → Type 0
 ListsMissing known None = ⊥
 ListsMissing known (Some names) = IsMissing known names
 
+-- a next state is there and isn't declared
 abbrev pub IsNextMissing : List (List ℕ) → Option (List ℕ) → Type 0
 IsNextMissing known None = ⊥
 IsNextMissing known (Some name) = Contains known name → ⊥
@@ -38,6 +40,7 @@ pub record NamesMissing (known : List (List ℕ)) (said : SaidRule) : Type 0 whe
   pub names : NamesState said name
   pub unknown : Contains known name → ⊥
 
+-- a line that names a state which isn't declared
 abbrev pub IsUnknown : List (List ℕ) → Saying → Type 0
 IsUnknown known (state name) = ⊥
 IsUnknown known (rule said) = NamesMissing known said

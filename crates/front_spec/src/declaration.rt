@@ -1,3 +1,4 @@
+// Lines of the section REX as declarations, by their shapes.
 ghost use Rattle.std.specs.Prelude.{◌≡◌, ◌+◌, ◌^◌, ◌<◌, ◌≤◌, ℕ, List, length, map, MatchOption, IfOk, IfErr};
 ghost use Rattle.spec_text.specs.Declares.{DeclareAll, IsFaultOfLine, IsFirstFault, LinesGrow, Says as is_said};
 ghost use Rattle.spec_text.specs.Lines.{Line};

@@ -1,3 +1,4 @@
+// The first fault of the section REX, kind by kind.
 ghost use Rattle.std.specs.Prelude.{◌≡◌, ℕ, ◌+◌, ◌^◌, ◌<◌, ◌≤◌, ◌⊎◌, ◌↔◌, List, [], ◌∷◌, Some, length, map, Contains, codes, IsTrue, MatchOption, IfOk, IfErr};
 ghost use Rattle.ck_base.specs.declared.fault.Kind.TheVariants.{Limit as limit, Twice as twice, Unknown as unknown};
 ghost use Rattle.rex_model.specs.Meaning.{meaning};

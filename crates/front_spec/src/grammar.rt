@@ -1,3 +1,4 @@
+// The grammar section read: its grammar and names, or its first fault.
 ghost use Rattle.std.specs.Prelude.{◌≡◌, ℕ, ◌+◌, ◌^◌, ◌<◌, Bool, ◌≤◌, List, length, map, IfOk, IfErr};
 ghost use Rattle.cfg_model.specs.Cfg.{IsGrammar};
 ghost use Rattle.spec_text.specs.Declares.{DeclareAll, Grow};

@@ -1,3 +1,4 @@
+// Rules of a grammar over numbered symbols.
 ghost use Rattle.std.specs.Prelude.{◌≡◌, ℕ, List, map, IfOk};
 ghost use Rattle.spec_text.specs.Seen.{bytes_of};
 ghost use Rattle.front_spec.specs.GrammarRules.{known_number, production_by, symbol_by};

@@ -1,3 +1,4 @@
+// The grammar section of a specification, under either of its heads.
 ghost use Rattle.std.specs.Prelude.{ℕ, Bool, List};
 ghost use Rattle.spec_text.specs.Promise.{AreSectionsOf};
 ghost use Rattle.spec_text.specs.Sections.{SectionLines};

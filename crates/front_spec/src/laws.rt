@@ -1,3 +1,4 @@
+// Laws of both readers, on empty functions: exactly one of a fault and declarations, in one way.
 ghost use Rattle.std.specs.Prelude.{◌≡◌, ℕ, Bool, List};
 ghost use Rattle.ck_base.specs.Found.{HasNo};
 ghost use Rattle.ck_base.specs.declared.fault.Kind.{Kind};

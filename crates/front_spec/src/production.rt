@@ -1,3 +1,4 @@
+// Lines of a grammar section as productions, by their shape.
 ghost use Rattle.std.specs.Prelude.{◌≡◌, ◌∷◌, ℕ, List, length, map, codes, MatchOption, IfOk, IfErr};
 ghost use Rattle.spec_text.specs.Declares.{DeclareAll, IsFaultOfLine, LinesGrow, Says};
 ghost use Rattle.spec_text.specs.Lexemes.{Lexeme, sign, word};

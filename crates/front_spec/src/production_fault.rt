@@ -1,3 +1,4 @@
+// The first fault of a grammar section, kind by kind.
 ghost use Rattle.std.specs.Prelude.{◌≡◌, ℕ, ◌+◌, ◌^◌, ◌<◌, ◌⊎◌, ◌↔◌, List, [], length, map, Contains, IsTrue, MatchOption, IfOk};
 ghost use Rattle.ck_base.specs.declared.fault.Kind.TheVariants.{Limit as limit, Twice as twice, Unknown as unknown};
 ghost use Rattle.spec_text.specs.Declares.{Grow, HasFault};

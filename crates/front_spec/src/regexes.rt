@@ -1,3 +1,4 @@
+// Regular expressions read from a line's tokens into the arena.
 ghost use Rattle.std.specs.Prelude.{◌≡◌, ℕ, ◌+◌, ◌<◌, ◌≤◌, List, length, map, MatchOption, IfOk, IfSome, codes};
 ghost use Rattle.rex_model.specs.Meaning.{meaning, sequence_of, alternative_of, set_of};
 ghost use Rattle.spec_text.specs.Lexemes.{Lexeme};

@@ -1,3 +1,4 @@
+// The section REX read: its rules and states, or its first fault.
 ghost use Rattle.std.specs.Prelude.{◌≡◌, ℕ, ◌+◌, ◌^◌, ◌<◌, ◌≤◌, List, Some, true, length, map, slice_get, IfOk, IfErr};
 ghost use Rattle.rex_model.specs.Positions.{position_count};
 ghost use Rattle.rex_model.specs.RuleMeaning.{rules_of};

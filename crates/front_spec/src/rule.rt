@@ -1,3 +1,4 @@
+// Rules of the section REX by their shape.
 ghost use Rattle.std.specs.Prelude.{◌≡◌, List, [], map, MatchOption, IfOk, codes};
 ghost use Rattle.rex_model.specs.Meaning.{meaning};
 ghost use Rattle.spec_text.specs.Lexemes.{Lexeme, sign};

@@ -1,3 +1,4 @@
+// Declared rules as scanner rules over numbered tokens and states.
 ghost use Rattle.std.specs.Prelude.{◌≡◌, ℕ, ◌+◌, ◌^◌, ◌<◌, List, [], ◌∷◌, ◌++◌, Some, length, map, IfOk};
 ghost use Rattle.ck_base.specs.Numbered.{met};
 ghost use Rattle.rex_model.specs.RuleMeaning.{contains, context_of, rule_of};

@@ -3,6 +3,7 @@ use Rattle.std.specs.Prelude.{◌≡◌, ℕ, ◌⊎◌, List, [], length, Conta
 use Rattle.lalr_look.specs.Rows.{row_at}
 use Rattle.ck_base.specs.BitSet.{BitSet, Has, Adds, Grew}
 
+-- the set of no numbers, of size 0
 abbrev pub no_set : BitSet
 no_set = record { size = 0; words = [] }
 

@@ -73,6 +73,7 @@ pub data SortsTo (g : Cfg) (c i : ℕ) (before after : List ℕ) : Type 0 where
   put : NextAt g c i → after ≡ before ++ ((c + 2048) ∷ []) → SortsTo g c i before after
   left : (NextAt g c i → ⊥) → after ≡ before → SortsTo g c i before after
 
+-- each row grew by the items that the moves of a core put there
 abbrev pub Sorts : Cfg → ℕ → List (List ℕ) → List (List ℕ) → Type 0
 Sorts g c old new = (i : ℕ) → SortsTo g c i (row_at old i) (row_at new i)
 
@@ -147,5 +148,6 @@ pairs items = map (λ c. (c % 2048, c / 2048)) items
 abbrev pub CallsAt : Cfg → ℕ → ℕ → ℕ → Type 0
 CallsAt g i k n = (y : List Sym) × (slice_get g.rules i ≡ Some (record { left = n; right = N k ∷ y }))
 
+-- one of the first items of a core calls this nonterminal
 abbrev pub CallsFirst : Cfg → ℕ → ℕ → ℕ → Type 0
 CallsFirst g count k n = (i : ℕ) × (i < count) × CallsAt g i k n

@@ -18,6 +18,7 @@ abbrev pub slot_or : Option Rule → ℕ
 slot_or None = 0
 slot_or (Some one) = suc one.left
 
+-- the number of the slot in front of a rule's first symbol
 abbrev pub front_slot : Cfg → ℕ → ℕ
 front_slot g zero = 0
 front_slot g (suc i) = slot_or (slice_get g.rules i)
@@ -52,6 +53,7 @@ abbrev pub OwnIn : Cfg → CoreList → List (ℕ × ℕ) → ℕ → ℕ → �
 OwnIn g cores nodes n k a =
     (r : ℕ) × (d : ℕ) × Contains (items_at cores n) (r, d) × OwnBy g nodes n r d k a
 
+-- an item of a core hands its lookaheads to a node
 abbrev pub LeadsIn : Cfg → CoreList → List (ℕ × ℕ) → ℕ → ℕ → ℕ → Type 0
 LeadsIn g cores nodes n k j =
     (r : ℕ) × (d : ℕ) × Contains (items_at cores n) (r, d) × LeadsBy g cores nodes n r d k j

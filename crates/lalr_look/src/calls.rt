@@ -1,3 +1,4 @@
+// Which items hand their lookaheads to a nonterminal that is called at a core.
 ghost use Rattle.std.specs.Prelude.{◌≡◌, ℕ, ◌<◌, ◌↔◌, ◌⊎◌, length, All, IfOk, OnOk};
 ghost use Rattle.ck_base.specs.BitSet.{Has};
 ghost use Rattle.cfg_model.specs.Cfg.{IsGrammar};

@@ -1,3 +1,4 @@
+// The cores of a grammar: their items and moves.
 ghost use Rattle.std.specs.Prelude.{◌≡◌, ◌<◌, ◌^◌, length};
 ghost use Rattle.cfg_model.specs.Cores.{items_at, moves_at};
 

@@ -1,3 +1,4 @@
+// Sets of tokens handed on along the edges of a graph until nothing changes.
 ghost use Rattle.std.specs.Prelude.{◌≡◌, ℕ, ◌<◌, ◌≤◌, ◌+◌, ◌^◌, ◌↔◌, All, Contains, length, OnOk, IfOk};
 ghost use Rattle.ck_base.specs.BitSet.{Has};
 ghost use Rattle.lalr_look.specs.Flow.{JoinedAt, Sent, Edge, Flows, set_at};

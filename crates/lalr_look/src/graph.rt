@@ -1,3 +1,4 @@
+// A graph whose nodes have sets of tokens of their own.
 ghost use Rattle.std.specs.Prelude.{◌≡◌, ℕ, ◌<◌, length, All, IfOk, OnOk};
 ghost use Rattle.lalr_look.specs.Graph.{IsSized, InSet, Grows};
 ghost use Rattle.lalr_look.specs.Flow.{Edge, set_at};

@@ -1,3 +1,4 @@
+// Kernels of cores, numbered by their first occurrence.
 ghost use Rattle.std.specs.Prelude.{◌≡◌, ℕ, ◌+◌, ◌^◌, ◌<◌, ◌↔◌, [], length, IfOk, OnErr, IsNone, Contains, slice_get};
 ghost use Rattle.lalr_look.specs.Numbered.{Interns};
 

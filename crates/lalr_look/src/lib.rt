@@ -10,7 +10,7 @@
 //! | which nonterminals a nonterminal calls | `src/calls.rt` |
 //! | items as numbers, kernels; what the loops over cores leave | `specs/Kernel.antt` |
 //! | each core is found, once, in the order in which it is first met | `proofs/OfPrefix.antt`, `RowsOf.antt`, `Grown.antt` |
-//! | lookaheads: the graph that they flow along, its making | `src/uniting.rt`, `src/nodes.rt`, `src/graph.rt`, `src/rests.rt`; `specs/LookGraph.antt` |
+//! | lookaheads: the graph that they flow along, its making | `src/lookahead_sets.rt`, `src/nodes.rt`, `src/graph.rt`, `src/rests.rt`; `specs/LookGraph.antt` |
 //! | numbers that flow along edges, by a work list | `src/flow.rt`; `specs/Flow.antt`, `proofs/Flowing.antt` |
 //! | what flows is what spreads over the cores | `proofs/Looking.antt`; the graph is that one: `proofs/Demands.antt`, `NodesOf.antt` |
 #![tactic(auto)]
@@ -20,12 +20,12 @@ mod core_list;
 mod flow;
 mod graph;
 mod kernels;
+mod lookahead_sets;
 mod making;
 mod nodes;
 mod rests;
 mod rows;
-mod uniting;
 
 pub use core_list::Cores;
+pub use lookahead_sets::lookaheads;
 pub use making::cores;
-pub use uniting::lookaheads;

@@ -1,3 +1,4 @@
+// The cores of a grammar, made from kernels breadth first.
 ghost use Rattle.std.specs.Prelude.{◌≡◌, ℕ, List, ◌+◌, ◌^◌, ◌/◌, ◌%◌, ◌<◌, ◌≤◌, ◌↔◌, ◌++◌, ◌≢◌, [], ◌∷◌, length, map, All, IfOk, IfErr, OnOk, IsTrue, Contains, slice_get, Some};
 ghost use Rattle.ck_base.specs.BitSet.{Has, Adds};
 ghost use Rattle.cfg_model.specs.Cfg.{IsGrammar, IsSymbol};

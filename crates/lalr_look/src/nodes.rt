@@ -1,3 +1,4 @@
+// Pairs of core and nonterminal, numbered.
 ghost use Rattle.std.specs.Prelude.{◌≡◌, ℕ, [], length, IfOk, OnOk, Some, Contains, slice_get};
 ghost use Rattle.lalr_look.specs.Numbered.{Interns};
 

@@ -1,3 +1,4 @@
+// What each rule has behind each dot: what begins it, and whether it can vanish.
 ghost use Rattle.std.specs.Prelude.{◌≡◌, ℕ, ◌+◌, ◌<◌, ◌≤◌, ◌↔◌, [], ◌∷◌, length, IfOk, IsTrue};
 ghost use Rattle.ck_base.specs.BitSet.{Adds};
 ghost use Rattle.cfg_model.specs.Cfg.{IsGrammar, IsSymbol};

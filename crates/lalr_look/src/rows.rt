@@ -1,3 +1,4 @@
+// Lists of numbers by row.
 ghost use Rattle.std.specs.Prelude.{◌≡◌, ℕ, ◌<◌, [], length, IfOk, OnOk};
 ghost use Rattle.lalr_look.specs.Rows.{rows_of, row_at, Pushes, Takes};
 

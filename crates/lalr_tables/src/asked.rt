@@ -1,3 +1,4 @@
+// What a plain LR table answers.
 ghost use Rattle.std.specs.Prelude.{◌≡◌};
 ghost use Rattle.lalr_tables.specs.Table.{answers_of, as_action, grammar_of};
 

@@ -1,3 +1,4 @@
+// The first conflict in the order of reports.
 ghost use Rattle.std.specs.Prelude.{◌≡◌, ◌↔◌, IsTrue};
 ghost use Rattle.cfg_model.specs.LalrConflicts.{NotAfter};
 ghost use Rattle.lalr_tables.specs.within.Clashes.{IsLesser, IsLesserOf, Precedes};

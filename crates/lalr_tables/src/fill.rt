@@ -1,3 +1,4 @@
+// The actions and gotos of all cores.
 ghost use Rattle.std.specs.Prelude.{◌≡◌, ◌≤◌, ◌<◌, ℕ, length, IfOk};
 ghost use Rattle.cfg_model.specs.Cfg.{IsGrammar};
 ghost use Rattle.cfg_model.specs.Cores.{IsCores};

@@ -1,3 +1,4 @@
+// The LALR(1) table of a grammar, or its first refusal.
 ghost use Rattle.std.specs.Prelude.{◌≡◌, ◌≤◌, ◌<◌, ◌^◌, ℕ, List, None, length, All, IfOk, IfErr, IsTrue};
 ghost use Rattle.ck_base.specs.BitSet.{BitSet};
 ghost use Rattle.cfg_model.specs.Cfg.{IsGrammar};

@@ -1,3 +1,4 @@
+// The plain LR table: a row of actions and a row of gotos for each state.
 ghost use Rattle.std.specs.Prelude.{◌≡◌, ◌+◌, ◌*◌, ◌<◌, ◌^◌, vec_len, length, All};
 
 use cfg_model::Grammar;

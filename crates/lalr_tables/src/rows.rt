@@ -1,3 +1,4 @@
+// The rows of one core: its actions, by items and lookaheads, and its gotos.
 ghost use Rattle.std.specs.Prelude.{◌≡◌, ◌<◌, ◌≤◌, ◌+◌, ◌^◌, ℕ, length, All, IfOk, slice_index};
 ghost use Rattle.cfg_model.specs.Cfg.{IsGrammar, IsSymbol};
 ghost use Rattle.cfg_model.specs.declared.symbol.Sym.TheVariants.{N, T};

@@ -6,7 +6,7 @@ use Rattle.cfg_model.specs.declared.named.NamedGrammar.{NamedGrammar}
 use Rattle.spec_text.specs.Declares.{Declared}
 use Rattle.node_spec.specs.AstShapes.{AstSaying, family, target, a_type, node, build}
 use Rattle.node_spec.specs.AstFaults.{AstFault, named_again, second_node, second_build, reserved_name, reserved_item, item_twice, used_twice, DeclaresName, of_family, of_target, of_type, label_then, labels_in, name_then, names_in, node_then, nodes_in}
-use Rattle.node_spec.specs.declared.again.Sort.TheVariants as sort
+use Rattle.node_spec.specs.declared.declared_again.Sort.TheVariants as sort
 use Rattle.node_spec.specs.within.AstSteps.{FirstWith, Either, earlier_of}
 use Rattle.node_spec.specs.within.AstTwice.{IsAgain, name_before, name_said, names_said, IsReserved, of_name, of_item, HasItemTwice, item_again, UsesTwice, of_rule}
 use Rattle.node_spec.proofs.FirstLines.{first_as, first_of_two}

@@ -13,7 +13,7 @@ use Rattle.spec_text.proofs.Parting.{contains_at}
 use Rattle.node_spec.specs.AstShapes.{AstSaying, SaidItem, family, target, a_type}
 use Rattle.node_spec.specs.AstFaults.{of_family, of_target, of_type, reserved_words, row_at}
 use Rattle.node_spec.specs.AstTables.{Row, row_after, rows_in}
-use Rattle.node_spec.specs.declared.again.Sort.{Sort}
+use Rattle.node_spec.specs.declared.declared_again.Sort.{Sort}
 use Rattle.node_spec.specs.declared.rows.TypeRow.{TypeRow}
 use Rattle.node_spec.specs.within.AstSeen.{item_seen, row_seen}
 use Rattle.node_spec.specs.within.AstTwice.{IsAgain, IsMet, again, fresh, Meets, name_before, name_said, names_said, HasDouble, HasReserved, IsReserved, of_name, of_item, HasItemTwice, item_again, RepeatsItem, repeats}

@@ -13,10 +13,10 @@ use Rattle.expr_lang.specs.Typing.{Context, HasType}
 use Rattle.expr_lang.specs.declared.expr.Expr.{Expr}
 use Rattle.expr_lang.specs.declared.expr.Scope.{Scope}
 use Rattle.expr_lang.proofs.OneType.{one_type}
-use Rattle.node_spec.specs.Spoken.{Spoken}
+use Rattle.expr_read.specs.Spoken.{Spoken}
 use Rattle.node_spec.specs.AstBuilds.{build_words, dollar_names, source_types}
-use Rattle.node_spec.specs.Nodes.{build_context, symbol_type}
-use Rattle.node_spec.specs.Resolving.{Vocabulary, Means, MeansNothing}
+use Rattle.node_model.specs.Nodes.{build_context, symbol_type}
+use Rattle.expr_read.specs.Resolving.{Vocabulary, Means, MeansNothing}
 use Rattle.node_spec.specs.declared.build.BuildWords.{BuildWords}
 use Rattle.node_spec.specs.within.AstBuildSteps.{AreBuildWords, IsBuilt, names_of_types}
 use Rattle.node_spec.proofs.BuildNames.{front_dollars, dollars_long}
@@ -60,16 +60,16 @@ MeansIn words context e source literals found =
 pub meant_by : (v w : Vocabulary) (scope : Scope) (families : List ℕ) (right : List Sym) (e : Spoken)
     (literals : List ℕ)
     (result : Result (Option (Expr × ValType)) NoMemory) → v ≡ w → scope.vars.now ≡ map (symbol_type families) right
-    → IfOk result (λ found. (source more : List ℕ) (sources : ℕ → Bool)
+    → IfOk result (λ found. (source more : List ℕ) (sources : ℕ → ℕ → Bool)
     → MeansIn v (context_of scope sources) e source (literals ++ more) found)
     → IfOk result (λ found. (source more : List ℕ)
     → MeansIn w (build_context families scope.makers.now right) e source (literals ++ more) found)
 meant_by v w scope families right e literals (Err x) words vars is = tt
 meant_by v w scope families right e literals (Ok found) words vars is = λ source more.
     subst (λ y. MeansIn y (build_context families scope.makers.now right) e source (literals ++ more) found) words
-    (subst (λ ts. MeansIn v (record { vars = ts; makers = scope.makers.now; sources = λ family. false }) e source
+    (subst (λ ts. MeansIn v (record { vars = ts; makers = scope.makers.now; sources = λ node family. false }) e source
     (literals ++ more) found) vars
-    (is source more (λ family. false)))
+    (is source more (λ node family. false)))
 
 -- an expression that means nothing, or is of another type, builds no node
 abbrev pub words_in : BuildWords → Rule → Vocabulary
@@ -134,7 +134,7 @@ pub meant_here : (words : BuildWords) (right : List Sym) (e : Spoken) (literals 
     (scope : Scope)
     (result : Result (Option (Expr × ValType)) NoMemory) → v ≡ build_words words.types.now (length right)
     → scope.vars.now ≡ map (symbol_type words.families.now) right → scope.makers.now ≡ words.sources.now.makers.items
-    → IfOk result (λ found. (source more : List ℕ) (sources : ℕ → Bool)
+    → IfOk result (λ found. (source more : List ℕ) (sources : ℕ → ℕ → Bool)
     → MeansIn v (context_of scope sources) e source (literals ++ more) found)
     → IfOk result (MeantOver words right e literals)
 meant_here words right e literals v scope (Err x) same vars makers is = tt

@@ -7,11 +7,11 @@ use Rattle.cfg_model.specs.declared.named.NamedGrammar.{NamedGrammar}
 use Rattle.cfg_model.specs.declared.symbol.Sym.{Sym}
 use Rattle.cfg_model.specs.declared.symbol.Sym.TheVariants.{T, N}
 use Rattle.spec_text.specs.Declares.{Declared}
-use Rattle.node_spec.specs.Spoken.{Spoken}
+use Rattle.expr_read.specs.Spoken.{Spoken}
 use Rattle.node_spec.specs.AstShapes.{AstSaying}
 use Rattle.node_spec.specs.AstTables.{table_by, families_by, build_line}
-use Rattle.node_spec.specs.Nodes.{Nodes}
-use Rattle.node_spec.specs.Resolving.{Vocabulary, resolved, dollar_name}
+use Rattle.node_model.specs.Nodes.{Nodes}
+use Rattle.expr_read.specs.Resolving.{Vocabulary, resolved, dollar_name}
 
 -- the names `$1`, `$2`, .. of the symbols of a rule
 abbrev pub dollar_names : ℕ → List (List ℕ)
@@ -25,6 +25,7 @@ source_types_from table t (row ∷ rows) =
     if (family_at table.families row.family).target then source_types_from table (t + 1) rows
     else (t ∷ source_types_from table (t + 1) rows)
 
+-- the types of the source side that makers make, by number
 abbrev pub source_types : TypeTable → List ℕ
 source_types table = source_types_from table 0 table.types
 
@@ -59,6 +60,7 @@ abbrev pub default_build : Option ℕ → Option Expression
 default_build None = None
 default_build (Some i) = Some (var i)
 
+-- what a rule builds: by its own line, else by default
 abbrev pub build_by : TypeTable → Option Spoken → List Sym → Option Expression
 build_by table None right = default_build (only_nonterminal right)
 build_by table (Some e) right = resolved (build_words table (length right)) e
@@ -68,6 +70,7 @@ build_by table (Some e) right = resolved (build_words table (length right)) e
 abbrev pub rule_builds : List (Declared AstSaying) → List ℕ → Rule → Expression
 rule_builds ds label rule = unwrap_or (build_by (table_by ds) (build_line ds label) rule.right) (var 0)
 
+-- what each rule builds, rules beside their labels
 abbrev pub builds_from : List (Declared AstSaying) → List (List ℕ) → List Rule → List Expression
 builds_from ds labels [] = []
 builds_from ds [] (rule ∷ rules) = []

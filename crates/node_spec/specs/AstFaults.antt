@@ -10,12 +10,12 @@ use Rattle.ck_base.specs.Numbered.{number_of}
 use Rattle.ck_base.specs.declared.fault.Kind.{Kind}
 use Rattle.ck_base.specs.declared.fault.Kind.TheVariants.{Limit, Twice, Unknown, Typing}
 use Rattle.spec_text.specs.Declares.{Declared, Notation}
-use Rattle.node_spec.specs.Spoken.{Spoken}
-use Rattle.node_spec.specs.Resolving.{dollars_in, has_unknown, resolved}
+use Rattle.expr_read.specs.Spoken.{Spoken}
+use Rattle.expr_read.specs.Resolving.{dollars_in, has_unknown, resolved}
 use Rattle.node_spec.specs.AstShapes.{AstSaying, SaidItem, AstShape, family, target, a_type, node, build}
 use Rattle.node_spec.specs.AstTables.{Row, families_in, family_names, family_number, rows_in, row_of, type_names, item_of, node_family, build_line}
 use Rattle.node_spec.specs.AstBuilds.{build_words, nodes_by, only_nonterminal}
-use Rattle.node_spec.specs.Nodes.{Builds}
+use Rattle.node_model.specs.Nodes.{Builds}
 
 -- the words that no family, type or item may be called by
 abbrev pub reserved_words : List (List ℕ)
@@ -36,6 +36,7 @@ name_then (a_type name base items) more = name ∷ more
 name_then (node nonterminal name) more = more
 name_then (build label e) more = more
 
+-- the names that lines declare, families and types alike, in their order
 abbrev pub names_in : List (Declared AstSaying) → List (List ℕ)
 names_in [] = []
 names_in (d ∷ ds) = name_then d.said (names_in ds)
@@ -54,10 +55,12 @@ node_then (a_type name base items) more = more
 node_then (node nonterminal name) more = nonterminal ∷ more
 node_then (build label e) more = more
 
+-- the nonterminals of NODE lines, in their order
 abbrev pub nodes_in : List (Declared AstSaying) → List (List ℕ)
 nodes_in [] = []
 nodes_in (d ∷ ds) = node_then d.said (nodes_in ds)
 
+-- the label of a BUILD line before others
 abbrev pub label_then : AstSaying → List (List ℕ) → List (List ℕ)
 label_then (family name) more = more
 label_then (target name) more = more
@@ -65,6 +68,7 @@ label_then (a_type name base items) more = more
 label_then (node nonterminal name) more = more
 label_then (build label e) more = label ∷ more
 
+-- the labels of BUILD lines, in their order
 abbrev pub labels_in : List (Declared AstSaying) → List (List ℕ)
 labels_in [] = []
 labels_in (d ∷ ds) = label_then d.said (labels_in ds)

@@ -1,5 +1,5 @@
 -- What `read_ast` gives.
-use Rattle.std.specs.Prelude.{◌≡◌, ℕ, ◌++◌, List}
+use Rattle.std.specs.Prelude.{◌≡◌, ℕ, List}
 use Rattle.ck_base.specs.declared.fault.Kind.{Kind}
 use Rattle.ck_base.specs.declared.fault.SpecFault.{SpecFault}
 use Rattle.ck_base.specs.declared.fault.SpecFault.TheVariants.{Bad, NoMemory}
@@ -12,7 +12,7 @@ use Rattle.spec_text.specs.declared.section.Section.TheVariants.{Ast}
 use Rattle.node_spec.specs.AstShapes.{AstSaying}
 use Rattle.node_spec.specs.AstBuilds.{nodes_by}
 use Rattle.node_spec.specs.AstFaults.{AstHeadFault, ast}
-use Rattle.node_spec.specs.Nodes.{Nodes}
+use Rattle.node_model.specs.Nodes.{Nodes}
 
 -- how the lines are judged, for the grammar
 abbrev pub judged_ast : NamedGrammar → SectionLines → Judged (List (Declared AstSaying))
@@ -32,10 +32,7 @@ pub record FirstAstFault (file : List ℕ) (g : NamedGrammar) (line : ℕ) (kind
   pub section : HasSection file Ast lines
   pub fault : FirstFault (judged_ast g lines) line kind
 
+-- the section's first fault, or that memory was wanted
 abbrev pub IsAstFault : List ℕ → NamedGrammar → SpecFault → Type 0
 IsAstFault file g (Bad line kind) = FirstAstFault file g line kind
 IsAstFault file g NoMemory = Unit {0}
-
--- bytes were put behind those that were there
-abbrev pub Grew : List ℕ → List ℕ → Type 0
-Grew old new = (more : List ℕ) × (new ≡ old ++ more)

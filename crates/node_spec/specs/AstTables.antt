@@ -7,7 +7,7 @@ use Rattle.ast_types.specs.TypeTable.{Family, NodeType, TypeTable}
 use Rattle.ast_types.specs.declared.item.Item.{Item}
 use Rattle.ck_base.specs.Numbered.{number_of}
 use Rattle.spec_text.specs.Declares.{Declared}
-use Rattle.node_spec.specs.Spoken.{Spoken}
+use Rattle.expr_read.specs.Spoken.{Spoken}
 use Rattle.node_spec.specs.AstShapes.{AstSaying, SaidItem, family, target, a_type, node, build}
 
 -- the family that a line declares, before those of the lines behind it
@@ -23,6 +23,7 @@ abbrev pub families_in : List (Declared AstSaying) → List Family
 families_in [] = []
 families_in (d ∷ ds) = family_then d.said (families_in ds)
 
+-- the names of families, in their order
 abbrev pub family_names : List (Declared AstSaying) → List (List ℕ)
 family_names ds = map (λ f. f.name) (families_in ds)
 
@@ -34,9 +35,11 @@ pub record Row : Type 0 where
   pub base : Option ℕ
   pub items : List SaidItem
 
+-- the names of rows, in their order
 abbrev pub row_names : List Row → List (List ℕ)
 row_names rows = map (λ row. row.name) rows
 
+-- the row that is there, else one without a name
 abbrev pub row_in : Option Row → Row
 row_in None = record { name = []; family = []; base = None; items = [] }
 row_in (Some row) = row
@@ -51,6 +54,7 @@ row_over rows name base own (Some b) =
 abbrev pub row_of : List Row → List ℕ → List ℕ → List SaidItem → Row
 row_of rows name base own = row_over rows name base own (number_of (row_names rows) base)
 
+-- rows with the one that a line declares
 abbrev pub row_after : List Row → AstSaying → List Row
 row_after rows (family name) = rows
 row_after rows (target name) = rows
@@ -58,6 +62,7 @@ row_after rows (a_type name base own) = rows ++ row_of rows name base own ∷ []
 row_after rows (node nonterminal name) = rows
 row_after rows (build label e) = rows
 
+-- rows with those that lines declare; a base stands in an earlier line
 abbrev pub rows_from : List Row → List (Declared AstSaying) → List Row
 rows_from rows [] = rows
 rows_from rows (d ∷ ds) = rows_from (row_after rows d.said) ds
@@ -83,9 +88,11 @@ item_type families name =
     if bytes_eq name (codes "map") then ty.Map else
     ty.Node (family_number families name)
 
+-- an item whose type is a plain one or a family's number
 abbrev pub item_of : List (List ℕ) → SaidItem → Item
 item_of families item = record { name = item.name; of = item_type families item.of }
 
+-- the type of a row
 abbrev pub type_of_row : List (List ℕ) → Row → NodeType
 type_of_row families row = record {
   name = row.name;
@@ -109,6 +116,7 @@ node_or (a_type name base items) wanted later = later
 node_or (node nonterminal name) wanted later = if bytes_eq nonterminal wanted then Some name else later
 node_or (build label e) wanted later = later
 
+-- the family that a NODE line gives a nonterminal
 abbrev pub node_family : List (Declared AstSaying) → List ℕ → Option (List ℕ)
 node_family [] wanted = None
 node_family (d ∷ ds) wanted = node_or d.said wanted (node_family ds wanted)
@@ -117,6 +125,7 @@ node_family (d ∷ ds) wanted = node_or d.said wanted (node_family ds wanted)
 abbrev pub family_by : List (Declared AstSaying) → List ℕ → ℕ
 family_by ds nonterminal = family_number (family_names ds) (unwrap_or (node_family ds nonterminal) nonterminal)
 
+-- the family of each nonterminal, by number
 abbrev pub families_by : List (Declared AstSaying) → List (List ℕ) → List ℕ
 families_by ds nonterminals = map (family_by ds) nonterminals
 
@@ -128,6 +137,7 @@ build_or (a_type name base items) wanted later = later
 build_or (node nonterminal name) wanted later = later
 build_or (build label e) wanted later = if bytes_eq label wanted then Some e else later
 
+-- the expression that a BUILD line gives a label
 abbrev pub build_line : List (Declared AstSaying) → List ℕ → Option Spoken
 build_line [] wanted = None
 build_line (d ∷ ds) wanted = build_or d.said wanted (build_line ds wanted)

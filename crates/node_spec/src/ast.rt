@@ -1,19 +1,21 @@
+// The section AST read: its types and what rules build, or its first fault.
 ghost use Rattle.std.specs.Prelude.{◌≡◌, ◌+◌, ◌≤◌, ◌++◌, ℕ, List, length, IfOk, IfErr};
 ghost use Rattle.cfg_model.specs.Cfg.{IsGrammar};
 ghost use Rattle.spec_text.specs.Promise.{AreSectionsOf, HasSection, IsSectionOf};
 ghost use Rattle.spec_text.specs.Sections.{SectionLines};
 ghost use Rattle.spec_text.specs.Sizes.{line_bytes};
 ghost use Rattle.spec_text.specs.declared.section.Section.TheVariants.{Ast};
-ghost use Rattle.node_spec.specs.AstPromise.{DeclaresNodes, Grew, IsAstFault};
-ghost use Rattle.node_spec.specs.Nodes.{FitGrammar, nodes_of};
+ghost use Rattle.node_spec.specs.AstPromise.{DeclaresNodes, IsAstFault};
+ghost use Rattle.value_store.specs.Texts.{Grew};
+ghost use Rattle.node_model.specs.Nodes.{FitGrammar, nodes_of};
 
 use crate::ast_line::ast_lines;
 use crate::ast_names::declared_names;
 use crate::ast_nodes::declared_nodes;
-use crate::nodes::NodeSpec;
 use bumpalo::Bump;
 use cfg_model::NamedGrammar;
 use ck_base::SpecFault;
+use node_model::NodeSpec;
 use spec_text::{Section, SectionText, Sections, section_of};
 use std::alloc::Global;
 use value_store::Literals;

@@ -1,3 +1,4 @@
+// Laws of the reader, on empty functions: one reading of a line, exactly one of a fault and a declaration.
 ghost use Rattle.std.specs.Prelude.{◌≡◌, ℕ, List};
 ghost use Rattle.ck_base.specs.Found.{HasNo};
 ghost use Rattle.ck_base.specs.declared.fault.Kind.{Kind};
@@ -8,7 +9,7 @@ ghost use Rattle.spec_text.specs.Sections.{SectionLines};
 ghost use Rattle.spec_text.specs.declared.section.Section.TheVariants.{Ast};
 ghost use Rattle.node_spec.specs.AstPromise.{DeclaresNodes, FirstAstFault};
 ghost use Rattle.node_spec.specs.AstShapes.{AstSaying, AstShape};
-ghost use Rattle.node_spec.specs.Nodes.{Nodes};
+ghost use Rattle.node_model.specs.Nodes.{Nodes};
 
 /// Law: a line of AST declares one thing at most.
 pub fn at_most_one_ast_line()

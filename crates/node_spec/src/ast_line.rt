@@ -1,3 +1,4 @@
+// Lines of the section AST, by their shapes.
 ghost use Rattle.std.specs.Prelude.{◌≡◌, List, length, map, IfOk, IfErr};
 ghost use Rattle.cfg_model.specs.declared.named.NamedGrammar.{NamedGrammar as named_grammar};
 ghost use Rattle.spec_text.specs.Declares.{DeclareAll, IsFaultOfLine, LinesGrow, Says};
@@ -9,9 +10,9 @@ ghost use Rattle.node_spec.specs.within.AstSeen.{declared_by};
 ghost use Rattle.node_spec.specs.within.AstSteps.{IsFirstOf};
 
 use crate::line_shapes::saying_of;
-use crate::written::Written;
 use bumpalo::Bump;
 use ck_base::{Kind, SpecFault};
+use expr_read::Written;
 use spec_text::{SpecLine, tokens_in};
 use std::alloc::Global;
 

@@ -1,3 +1,4 @@
+// Names of families and types, numbered in order of declaration.
 ghost use Rattle.std.specs.Prelude.{◌≡◌, ◌+◌, ◌<◌, ◌^◌, ℕ, length, map, IfOk, IfErr};
 ghost use Rattle.ck_base.specs.declared.fault.Kind.TheVariants.{Twice as twice, Unknown as unknown};
 ghost use Rattle.ck_base.specs.Numbered.{AreApart};

@@ -1,3 +1,4 @@
+// The declarations of a section AST given their meaning.
 ghost use Rattle.std.specs.Prelude.{◌≡◌, ◌≤◌, ◌+◌, ◌<◌, ◌^◌, ◌++◌, ℕ, List, length, map, IfOk, IfErr};
 ghost use Rattle.cfg_model.specs.Cfg.{IsGrammar};
 ghost use Rattle.ck_base.specs.Numbered.{AreApart};
@@ -8,9 +9,10 @@ ghost use Rattle.spec_text.specs.FirstFault.{Accepts};
 ghost use Rattle.spec_text.specs.Sections.{SectionLines};
 ghost use Rattle.node_spec.specs.AstBuilds.{builds_from, nodes_by};
 ghost use Rattle.node_spec.specs.AstFaults.{ast, labels_in};
-ghost use Rattle.node_spec.specs.AstPromise.{Grew, judged_ast};
+ghost use Rattle.node_spec.specs.AstPromise.{judged_ast};
+ghost use Rattle.value_store.specs.Texts.{Grew};
 ghost use Rattle.node_spec.specs.AstTables.{families_by, rows_in, table_by};
-ghost use Rattle.node_spec.specs.Nodes.{nodes_of};
+ghost use Rattle.node_model.specs.Nodes.{nodes_of};
 ghost use Rattle.node_spec.specs.Strings.{declared_bytes};
 ghost use Rattle.node_spec.specs.within.AstBuilt.{AllBuild};
 ghost use Rattle.node_spec.specs.within.AstSeen.{declared_by, row_seen};
@@ -22,14 +24,14 @@ use crate::ast_names::AstNames;
 use crate::builds::{Found, builds_of};
 use crate::families::node_families;
 use crate::limits::first_past_limit;
-use crate::nodes::NodeSpec;
-use crate::sides::{first_of_wrong_side, joins_families};
 use crate::table::table_of;
+use crate::wrong_sides::{first_of_wrong_side, joins_families};
 use ast_types::Types;
 use bumpalo::Bump;
 use cfg_model::NamedGrammar;
 use ck_base::{Kind, SpecFault};
 use expr_lang::Expr;
+use node_model::NodeSpec;
 use std::alloc::Global;
 use value_store::Literals;
 

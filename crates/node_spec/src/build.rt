@@ -1,24 +1,23 @@
+// A BUILD line's expression given its meaning and type.
 ghost use Rattle.std.specs.Prelude.{◌≡◌, ◌+◌, ◌≤◌, ◌++◌, ◌↔◌, ℕ, IsTrue, List, length, map, IfOk, MatchOption, slice_index};
 ghost use Rattle.expr_lang.specs.Expression.{Expression};
 ghost use Rattle.expr_lang.specs.Meaning.{meaning};
 ghost use Rattle.node_spec.specs.AstBuilds.{build_words};
-ghost use Rattle.node_spec.specs.AstPromise.{Grew};
-ghost use Rattle.node_spec.specs.Nodes.{build_context, symbol_type as type_of_symbol};
-ghost use Rattle.node_spec.specs.Resolving.{Means, MeansNothing};
-ghost use Rattle.node_spec.specs.Strings.{string_bytes};
+ghost use Rattle.value_store.specs.Texts.{Grew};
+ghost use Rattle.node_model.specs.Nodes.{build_context, symbol_type as type_of_symbol};
+ghost use Rattle.expr_read.specs.Resolving.{Means, MeansNothing};
+ghost use Rattle.expr_read.specs.Strings.{string_bytes};
 ghost use Rattle.node_spec.specs.within.AstBuildSteps.{AreBuildWords, IsBuilt};
-ghost use Rattle.node_spec.specs.within.Writing.{spoken_of};
+ghost use Rattle.expr_read.specs.Writing.{spoken_of};
 ghost use Rattle.value_store.specs.declared.value.ValType.TheVariants as ty;
 
 use crate::makers::SourceMakers;
-use crate::resolving::meant_in;
-use crate::vocabulary::Vocabulary;
-use crate::written::Written;
 use ast_types::Types;
 use bumpalo::Bump;
 use cfg_model::{GrammarRule, Sym};
 use ck_base::NoMemory;
 use expr_lang::{Expr, Scope};
+use expr_read::{Vocabulary, Written, meant_in};
 use std::alloc::Global;
 use value_store::{Literals, Name, ValType};
 

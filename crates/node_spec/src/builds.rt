@@ -1,3 +1,4 @@
+// What each grammar rule builds, by its own line or by default.
 ghost use Rattle.std.specs.Prelude.{◌≡◌, ◌+◌, ◌<◌, ◌≤◌, ◌^◌, ◌++◌, ℕ, List, All, length, map, set, unwrap_or, IfOk, Some, slice_get, slice_index};
 ghost use Rattle.cfg_model.specs.Cfg.{IsGrammar, Rule};
 ghost use Rattle.ck_base.specs.Numbered.{AreApart};
@@ -7,7 +8,7 @@ ghost use Rattle.expr_lang.specs.Meaning.{meaning};
 ghost use Rattle.spec_text.specs.Declares.{Grow};
 ghost use Rattle.node_spec.specs.AstBuilds.{builds_from, default_build, nodes_by, only_nonterminal as the_only, rule_builds};
 ghost use Rattle.node_spec.specs.AstFaults.{AstHeadFault, labels_in};
-ghost use Rattle.node_spec.specs.AstPromise.{Grew};
+ghost use Rattle.value_store.specs.Texts.{Grew};
 ghost use Rattle.node_spec.specs.AstTables.{families_by, table_by};
 ghost use Rattle.node_spec.specs.Strings.{declared_bytes, saying_bytes};
 ghost use Rattle.node_spec.specs.within.AstBuildSteps.{AreBuildWords, Puts};

@@ -1,6 +1,7 @@
+// The names `$1`, `$2`, .. of a rule's symbols.
 ghost use Rattle.std.specs.Prelude.{◌≡◌, IfOk};
 ghost use Rattle.node_spec.specs.AstBuilds.{dollar_names as the_dollar_names};
-ghost use Rattle.node_spec.specs.Resolving.{dollar_name as the_dollar_name};
+ghost use Rattle.expr_read.specs.Resolving.{dollar_name as the_dollar_name};
 
 use ck_base::NoMemory;
 use std::alloc::Global;

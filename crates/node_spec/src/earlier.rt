@@ -1,3 +1,4 @@
+// The earlier of two places that may be missing.
 ghost use Rattle.std.specs.Prelude.{◌≡◌};
 ghost use Rattle.node_spec.specs.within.AstSteps.{earlier_of};
 

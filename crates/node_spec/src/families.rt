@@ -1,3 +1,4 @@
+// Families in order of declaration, and those of nonterminals.
 ghost use Rattle.std.specs.Prelude.{◌≡◌, ◌+◌, ◌<◌, ◌^◌, ◌++◌, ◌∷◌, [], List, length, map, IfOk, OnOk};
 ghost use Rattle.ck_base.specs.Numbered.{AreApart, met};
 ghost use Rattle.spec_text.specs.Declares.{Declared};
@@ -9,7 +10,7 @@ ghost use Rattle.node_spec.specs.within.AstSteps.{AreFamilies};
 ghost use Rattle.node_spec.specs.within.AstUnknown.{AreNodes, family_after};
 
 use crate::ast_line::{AstLine, Saying};
-use crate::gathered::types_named;
+use crate::names_of_lines::types_named;
 use crate::node_lines::{NodeLines, node_lines};
 use cfg_model::NamedGrammar;
 use ck_base::{Names, NoMemory};

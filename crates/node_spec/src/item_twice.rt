@@ -1,3 +1,4 @@
+// The first line whose items repeat a name.
 ghost use Rattle.std.specs.Prelude.{◌≡◌, ◌+◌, ◌<◌, ◌^◌, ◌↔◌, List, length, map, IsTrue, IfOk};
 ghost use Rattle.spec_text.specs.Declares.{Grow};
 ghost use Rattle.node_spec.specs.AstTables.{Row, row_after, rows_in};
@@ -5,8 +6,8 @@ ghost use Rattle.node_spec.specs.within.AstSeen.{declared_by, item_seen, row_see
 ghost use Rattle.node_spec.specs.within.AstSteps.{FirstWith};
 ghost use Rattle.node_spec.specs.within.AstTwice.{HasDouble, HasItemTwice, RepeatsItem};
 
-use crate::again::is_met;
 use crate::ast_line::{AstLine, ItemText, Saying};
+use crate::declared_again::is_met;
 use crate::rows::TypeRow;
 use ck_base::{Names, NoMemory};
 use std::alloc::Global;

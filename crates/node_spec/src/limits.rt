@@ -1,3 +1,4 @@
+// The line by which a count passes its limit.
 ghost use Rattle.std.specs.Prelude.{◌≡◌, ◌+◌, ◌<◌, ◌^◌, ◌↔◌, ◌⊎◌, [], length, map, Contains, IsTrue, MatchOption};
 ghost use Rattle.ast_types.specs.Items.{child_families};
 ghost use Rattle.cfg_model.specs.declared.named.NamedGrammar.{NamedGrammar as named_grammar};

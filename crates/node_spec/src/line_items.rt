@@ -1,3 +1,4 @@
+// Items of a type's line.
 ghost use Rattle.std.specs.Prelude.{◌≡◌, ◌↔◌, ◌∷◌, [], ℕ, List, map, codes, IsTrue, MatchOption, IfOk};
 ghost use Rattle.spec_text.specs.Lexemes.{Lexeme, sign};
 ghost use Rattle.spec_text.specs.Parts.{ListOf, NoReading, NotFirst, Reading};

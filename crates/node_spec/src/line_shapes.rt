@@ -1,19 +1,19 @@
+// Which shape a line of the section AST has.
 ghost use Rattle.std.specs.Prelude.{◌≡◌, ◌∷◌, [], ℕ, List, map, codes, MatchOption, IfOk};
 ghost use Rattle.spec_text.specs.Lexemes.{Lexeme, sign, word};
 ghost use Rattle.spec_text.specs.Seen.{seen};
 ghost use Rattle.node_spec.specs.AstShapes.{AstSaying, AstShape, SaidItem};
-ghost use Rattle.node_spec.specs.Notation.{IsSpoken};
-ghost use Rattle.node_spec.specs.Spoken.{Spoken};
+ghost use Rattle.expr_read.specs.Notation.{IsSpoken};
+ghost use Rattle.expr_read.specs.Spoken.{Spoken};
 ghost use Rattle.node_spec.specs.within.AstSeen.{item_seen, saying_seen};
 ghost use Rattle.node_spec.specs.within.LineHeads.{IsBuildHead, IsBuildLine, IsNamed, IsNodeLine, IsTypeHead, IsTypeLine};
-ghost use Rattle.node_spec.specs.within.Writing.{spoken_of};
+ghost use Rattle.expr_read.specs.Writing.{spoken_of};
 
 use crate::ast_line::{ItemText, Saying};
 use crate::line_items::items_within;
-use crate::parsing::read_written;
-use crate::written::Written;
 use bumpalo::Bump;
 use ck_base::NoMemory;
+use expr_read::{Written, read_written};
 use spec_text::{Token, after_sign, after_word, name_of};
 use std::alloc::Global;
 

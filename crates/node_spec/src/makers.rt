@@ -1,7 +1,8 @@
+// Makers of source types, for BUILD expressions.
 ghost use Rattle.std.specs.Prelude.{◌≡◌, ◌+◌, ◌<◌, ◌^◌, length, map, IfOk, OnOk};
 ghost use Rattle.ast_types.specs.TypeTable.{type_at};
 ghost use Rattle.node_spec.specs.AstBuilds.{source_types};
-ghost use Rattle.node_spec.specs.Nodes.{AreSourceMakers, IsMakerOf};
+ghost use Rattle.node_model.specs.Nodes.{AreSourceMakers, IsMakerOf};
 ghost use Rattle.node_spec.specs.within.AstBuildSteps.{MadeSoFar, names_of_types};
 
 use ast_types::{Item, Types};

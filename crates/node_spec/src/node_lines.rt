@@ -1,3 +1,4 @@
+// NODE lines gathered: the family of each nonterminal.
 ghost use Rattle.std.specs.Prelude.{◌≡◌, ◌+◌, ◌<◌, ◌^◌, List, length, map, IfOk, OnOk};
 ghost use Rattle.spec_text.specs.Declares.{Declared};
 ghost use Rattle.node_spec.specs.AstShapes.{AstSaying, node};

@@ -1,3 +1,4 @@
+// The one nonterminal of a rule's right side, if it has just one.
 ghost use Rattle.std.specs.Prelude.{◌≡◌, ◌≤◌, ◌<◌, ◌^◌, length, MatchOption};
 ghost use Rattle.node_spec.specs.AstBuilds.{only_nonterminal as the_only};
 ghost use Rattle.node_spec.specs.within.AstUnknown.{NextPlace, names_nonterminal};

@@ -1,3 +1,4 @@
+// The first line that declares a reserved word.
 ghost use Rattle.std.specs.Prelude.{◌≡◌, ◌↔◌, ◌⊎◌, ℕ, length, map, Contains, IsTrue};
 ghost use Rattle.spec_text.specs.Declares.{Grow};
 ghost use Rattle.spec_text.specs.Seen.{bytes_of};

@@ -1,3 +1,4 @@
+// Types by their rows: bases first.
 ghost use Rattle.std.specs.Prelude.{◌≡◌, ◌+◌, ◌<◌, ◌^◌, ℕ, [], ◌∷◌, length, map, IfOk, OnOk, MatchOption};
 ghost use Rattle.ck_base.specs.Numbered.{met};
 ghost use Rattle.node_spec.specs.AstTables.{row_after, row_names, row_over, rows_in};

@@ -1,3 +1,4 @@
+// The table of types, family by family and row by row.
 ghost use Rattle.std.specs.Prelude.{◌≡◌, ◌+◌, ◌<◌, ◌≤◌, ◌^◌, ◌++◌, [], ◌∷◌, All, Contains, drop, length, map, IfOk, OnOk};
 ghost use Rattle.ast_types.specs.TypeTable.{BaseIsThere, base_items};
 ghost use Rattle.node_spec.specs.AstTables.{families_in, family_names, family_number, item_of, item_type, rows_in, table_by, type_of_row};

@@ -1,3 +1,4 @@
+// The first line that declares something twice.
 ghost use Rattle.std.specs.Prelude.{◌≡◌, ◌+◌, ◌<◌, ◌^◌, length, map, IfOk, MatchOption};
 ghost use Rattle.ck_base.specs.Numbered.{AreApart};
 ghost use Rattle.ck_base.specs.declared.fault.Kind.TheVariants.{Twice as twice};
@@ -8,8 +9,8 @@ ghost use Rattle.node_spec.specs.AstTables.{rows_in};
 ghost use Rattle.node_spec.specs.within.AstSeen.{declared_by, row_seen};
 ghost use Rattle.node_spec.specs.within.AstSteps.{HasNone};
 
-use crate::again::{Sort, first_again};
 use crate::ast_line::AstLine;
+use crate::declared_again::{Sort, first_again};
 use crate::earlier::earlier;
 use crate::item_twice::first_item_twice;
 use crate::reserved::first_reserved;

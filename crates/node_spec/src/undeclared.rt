@@ -1,3 +1,4 @@
+// The first line that names what isn't declared.
 ghost use Rattle.std.specs.Prelude.{◌≡◌, ◌+◌, ◌<◌, ◌^◌, ℕ, length, map, IfOk, MatchOption};
 ghost use Rattle.ck_base.specs.declared.fault.Kind.TheVariants.{Unknown as unknown};
 ghost use Rattle.spec_text.specs.Declares.{Grow};

@@ -1,3 +1,4 @@
+// A fault at the head's line: a nonterminal without a family, a rule that builds nothing.
 ghost use Rattle.std.specs.Prelude.{◌≡◌, ◌+◌, ◌<◌, ◌^◌, ◌↔◌, length, map, not, is_none, slice_index_or, false, IfOk, IsTrue};
 ghost use Rattle.ck_base.specs.declared.fault.Kind.TheVariants.{Unknown as unknown};
 ghost use Rattle.node_spec.specs.AstBuilds.{only_nonterminal};
@@ -8,7 +9,7 @@ ghost use Rattle.node_spec.specs.within.AstUnknown.{HasNoOnly, IsSource, LacksBu
 
 use crate::ast_line::AstLine;
 use crate::families::Families;
-use crate::gathered::{labels_named, nodes_named};
+use crate::names_of_lines::{labels_named, nodes_named};
 use crate::only_nonterminal::only_place;
 use crate::unknown_lines::is_missing;
 use cfg_model::{Grammar, GrammarRule, NamedGrammar};

@@ -1,3 +1,4 @@
+// The first line that names an unknown base, family, item type, nonterminal or maker.
 ghost use Rattle.std.specs.Prelude.{◌≡◌, ◌+◌, ◌<◌, ◌^◌, ◌↔◌, length, map, Contains, IfOk, IsTrue};
 ghost use Rattle.spec_text.specs.Declares.{Grow};
 ghost use Rattle.node_spec.specs.within.AstSeen.{declared_by, item_seen, saying_seen};
@@ -5,9 +6,9 @@ ghost use Rattle.node_spec.specs.within.AstSteps.{FirstWith};
 ghost use Rattle.node_spec.specs.within.AstUnknown.{BaseFault, BuildFault, HasNoBase, HasNoItemType, HasUnknownItem, IsItemWord, IsUnknownBuild, IsUnknownNode, IsUnknownType, ItemFault, NodeFault};
 
 use crate::ast_line::{AstLine, ItemText, Saying};
-use crate::gathered::{declared_name, note};
-use crate::unknown_names::has_unknown;
+use crate::names_of_lines::{declared_name, note};
 use ck_base::{Names, NoMemory};
+use expr_read::has_unknown;
 use std::alloc::Global;
 
 /// The first type whose base is neither a family nor a type of a line before.

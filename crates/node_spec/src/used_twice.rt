@@ -1,3 +1,4 @@
+// The first BUILD line that uses a value twice.
 ghost use Rattle.std.specs.Prelude.{◌≡◌, ◌+◌, ◌↔◌, ℕ, length, map, IsTrue, IfOk, MatchOption};
 ghost use Rattle.cfg_model.specs.Cfg.{Rule};
 ghost use Rattle.spec_text.specs.Declares.{Grow};
@@ -7,9 +8,9 @@ ghost use Rattle.node_spec.specs.within.AstSteps.{FirstWith};
 ghost use Rattle.node_spec.specs.within.AstTwice.{IsValue, UsedTwice, Uses, UsesTwice};
 
 use crate::ast_line::{AstLine, Saying};
-use crate::dollars::dollars_in;
 use cfg_model::{GrammarRule, NamedGrammar, Sym};
 use ck_base::NoMemory;
+use expr_read::dollars_in;
 use std::alloc::Global;
 
 /// The first BUILD line that uses a nonterminal's value twice.

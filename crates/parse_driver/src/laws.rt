@@ -1,3 +1,4 @@
+// Laws on derivations, on empty functions: a source has at most one.
 ghost use Rattle.std.specs.Prelude.{◌≡◌, ℕ, List};
 ghost use Rattle.cfg_model.specs.LlTables.{IsLl};
 ghost use Rattle.cfg_model.specs.LrTables.{IsLr};

@@ -1,3 +1,4 @@
+// A list of tokens as a stream.
 ghost use Rattle.std.specs.Prelude.{◌≡◌, ℕ, ◌-◌, ◌↔◌, List, length, true};
 ghost use Rattle.parse_driver.specs.Listed.{comes_of};
 ghost use Rattle.parse_driver.specs.Stream.{Ending, finished, bad_at};

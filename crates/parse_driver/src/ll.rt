@@ -1,3 +1,4 @@
+// The LL(1) parser: a stack of entries, expanded by a table's predictions.
 ghost use Rattle.std.specs.Prelude.{◌≡◌, ℕ, ◌+◌, ◌^◌, ◌<◌, ◌≤◌, Bool, IsTrue, List, length, All, IfOk, ◌++◌, ◌∷◌};
 ghost use Rattle.parse_driver.specs.within.LlStack.{entries, finding, IsReached, Expands, Turns, Takes, IsTop};
 ghost use Rattle.parse_driver.specs.declared.ll.Entry.TheVariants.{Done};

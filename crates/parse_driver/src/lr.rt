@@ -1,3 +1,4 @@
+// The LR parser: a stack of states, shifts and reductions by a table's actions.
 ghost use Rattle.std.specs.Prelude.{◌≡◌, ℕ, ◌+◌, ◌^◌, ◌<◌, ◌≤◌, IsTrue, List, length, All, IfOk, ◌++◌, ◌∷◌, [], Some};
 ghost use Rattle.cfg_model.specs.Cfg.{IsRule};
 ghost use Rattle.cfg_model.specs.LrTables.{IsLrTable};

@@ -1,3 +1,4 @@
+// Why tokens have no derivation: the first wrong token, a bad place, or want of memory.
 ghost use Rattle.std.specs.Prelude.{◌≡◌};
 ghost use Rattle.parse_driver.specs.declared.refusal.ParseError.TheVariants.{NoMemory};
 

@@ -1,3 +1,4 @@
+// Steps of a derivation: shifts and reductions.
 use crate::tokens::TokenRef;
 
 /// A step of a derivation in postorder.

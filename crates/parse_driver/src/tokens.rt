@@ -1,3 +1,4 @@
+// The trait of a stream of tokens.
 ghost use Rattle.std.specs.Prelude.{◌≡◌, ℕ, Bool, IsTrue, List};
 ghost use Rattle.parse_driver.specs.Stream.{Ending, Draws, GoesOn};
 ghost use Rattle.parse_driver.specs.declared.tokens.TokenRef.{TokenRef};

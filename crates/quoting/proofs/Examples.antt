@@ -1,6 +1,6 @@
 -- Texts in quotes and numbers, tried on cases that are worked by hand.
 use Rattle.std.proofs.Common.{◌≡◌, [], ◌∷◌, pos, negsuc, codes, refl}
-use Rattle.std.specs.Fmt.{digits, signed_decimal}
+use Rattle.std.specs.Fmt.{digits, decimal, signed_decimal}
 use Rattle.quoting.specs.Quoted.{quoted}
 
 -- `a"\` and the bytes 0x01 and 0xff are printed `"a\"\\\x01\xff"`
@@ -28,3 +28,8 @@ ten_is = refl
 minus_ten_is : signed_decimal (negsuc 9) ≡ codes "-10"
 unfolding digits
 minus_ten_is = refl
+
+-- 2^32 is printed whole
+past_32_bits : decimal 4294967296 ≡ codes "4294967296"
+unfolding digits
+past_32_bits = refl

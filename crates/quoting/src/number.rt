@@ -1,3 +1,4 @@
+// Numbers in print.
 ghost use Rattle.std.specs.Prelude.{◌≡◌, ◌++◌, decimal, OnOk};
 ghost use Rattle.std.specs.Fmt.{signed_decimal};
 
@@ -5,7 +6,7 @@ use itoa::Buffer;
 use value_store::NoMemory;
 
 /// Appends the number in decimal digits.
-pub fn push_decimal(out: &mut Vec<u8>, n: u32) -> Result<(), NoMemory>
+pub fn push_decimal(out: &mut Vec<u8>, n: u64) -> Result<(), NoMemory>
     ensures { OnOk result (out.new.items ≡ out.old.items ++ decimal n) }
 {
     let mut digits = Buffer::new();

@@ -1,3 +1,4 @@
+// Texts in print, quoted byte by byte.
 ghost use Rattle.std.specs.Prelude.{◌≡◌, ◌<◌, ◌++◌, OnOk};
 ghost use Rattle.quoting.specs.Quoted.{hex_digit, quoted_byte, quoted};
 

@@ -1,3 +1,4 @@
+// Classes of bytes that no rule tells apart.
 ghost use Rattle.std.specs.Prelude.{◌≡◌, ◌<◌, IfOk, length};
 ghost use Rattle.rex_dfa.specs.within.Alike.{IsLike, AreLike};
 

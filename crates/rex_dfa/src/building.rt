@@ -1,3 +1,4 @@
+// The scanner's tables of a list of rules, or their first refusal.
 ghost use Rattle.std.specs.Prelude.{◌≡◌, ℕ, ◌^◌, ◌<◌, ◌≤◌, IfOk, IfErr, MatchOption, Some, length, map, slice_get};
 ghost use Rattle.ck_base.specs.Found.{HasNo};
 ghost use Rattle.rex_model.specs.Positions.{position_count};

@@ -1,3 +1,4 @@
+// Refusals of a scanner's rules.
 use ck_base::StateKind;
 
 /// Why there are no tables for scan rules; the first of these causes that there is. Rules are

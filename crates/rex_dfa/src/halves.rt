@@ -1,3 +1,4 @@
+// Forward and backward automata of rules with a right context.
 ghost use Rattle.std.specs.Prelude.{◌<◌, IfOk, MatchOption};
 ghost use Rattle.rex_model.specs.Meaning.{meaning};
 ghost use Rattle.rex_model.specs.Positions.{position_count};

@@ -1,3 +1,4 @@
+// Laws on marks, on empty functions: a mark follows exactly the words of its rule.
 ghost use Rattle.std.specs.Prelude.{ℕ, ◌↔◌, List, reverse};
 ghost use Rattle.rex_model.specs.Language.{Re, Language};
 ghost use Rattle.rex_model.specs.Positions.{Takes, First, Follow, position_count};

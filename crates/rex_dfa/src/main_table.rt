@@ -1,3 +1,4 @@
+// The main automaton, one table for all start states.
 ghost use Rattle.std.specs.Prelude.{◌≡◌, ◌≤◌, IfOk, MatchOption, map};
 ghost use Rattle.rex_model.specs.Positions.{position_count};
 ghost use Rattle.rex_model.specs.RuleMeaning.{rule_of};

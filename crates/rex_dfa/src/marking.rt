@@ -1,3 +1,4 @@
+// Which rule a set of positions accepts: the least mark in it.
 ghost use Rattle.std.specs.Prelude.{◌≡◌, ℕ, ◌<◌, ◌^◌, ◌↔◌, IsTrue, IfOk, length, get_or, map, []};
 ghost use Rattle.ck_base.specs.BitSet.{Has};
 ghost use Rattle.ck_base.specs.Words.{IsFit};

@@ -1,3 +1,4 @@
+// Rows of positions of one part of a rule: takers, follows, befores.
 ghost use Rattle.std.specs.Prelude.{◌≡◌, ℕ, ◌+◌, ◌<◌, ◌≤◌, ◌^◌, ◌↔◌, IsTrue, All, IfOk, length};
 ghost use Rattle.ck_base.specs.BitSet.{Has, Adds};
 ghost use Rattle.rex_model.specs.Meaning.{meaning};

@@ -1,3 +1,4 @@
+// Parts of rules with a right context, each with its automaton.
 ghost use Rattle.std.specs.Prelude.{◌≡◌, IfOk, MatchOption, [], ◌∷◌};
 ghost use Rattle.ck_base.specs.BitSet.{BitSet, Has};
 ghost use Rattle.rex_model.specs.TableMeaning.{automaton_of};

@@ -1,3 +1,4 @@
+// Positions of regular expressions, by the bytes that they take and by what follows them.
 ghost use Rattle.std.specs.Prelude.{◌≡◌, ℕ, ◌+◌, ◌*◌, ◌<◌, ◌^◌, ◌↔◌, IsTrue, IsBitSet, length};
 ghost use Rattle.ck_base.specs.BitSet.{Has};
 ghost use Rattle.ck_base.specs.Words.{IsFit};

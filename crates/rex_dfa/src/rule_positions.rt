@@ -1,3 +1,4 @@
+// Positions that follow one another within a rule, marks at its end.
 ghost use Rattle.std.specs.Prelude.{◌≡◌, ◌⊎◌, ◌+◌, ◌^◌, ◌<◌, ◌≤◌, IsTrue, map};
 ghost use Rattle.ck_base.specs.BitSet.{Adds};
 ghost use Rattle.rex_model.specs.Meaning.{meaning};

@@ -1,3 +1,4 @@
+// Rows of positions for all rules: takers, follows, firsts.
 ghost use Rattle.std.specs.Prelude.{◌≡◌, ◌+◌, ◌≤◌, IfOk, map, length};
 ghost use Rattle.rex_model.specs.Positions.{position_count, Takes, Follow};
 ghost use Rattle.rex_model.specs.RuleMeaning.{rule_of};

@@ -1,3 +1,4 @@
+// Automata for the splits of rules with a right context, each made once.
 ghost use Rattle.std.specs.Prelude.{◌≡◌, ◌+◌, ◌⊎◌, ◌<◌, ◌≤◌, IfOk, MatchOption, length, map};
 ghost use Rattle.rex_model.specs.Meaning.{meaning};
 ghost use Rattle.rex_model.specs.Positions.{position_count};

@@ -1,3 +1,4 @@
+// The subset construction over sets of positions.
 ghost use Rattle.std.specs.Prelude.{◌≡◌, ℕ, ◌+◌, ◌*◌, ◌-◌, ◌^◌, ◌<◌, ◌≤◌, IsTrue, All, IfOk, MatchOption, length, get_or, []};
 ghost use Rattle.ck_base.specs.BitSet.{Has};
 ghost use Rattle.ck_base.specs.Words.{IsFit};

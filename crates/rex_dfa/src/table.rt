@@ -1,3 +1,4 @@
+// A table of moves from sets of positions.
 ghost use Rattle.std.specs.Prelude.{◌≡◌, ◌^◌, ◌<◌, All, IfOk, MatchOption, length};
 ghost use Rattle.rex_model.specs.TableMeaning.{automaton_of};
 ghost use Rattle.rex_dfa.specs.within.Parts.{IsTable};

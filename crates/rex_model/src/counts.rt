@@ -1,3 +1,4 @@
+// How many positions a regular expression has.
 ghost use Rattle.std.specs.Prelude.{◌≡◌, ◌-◌, ◌^◌, min, map};
 ghost use Rattle.rex_model.specs.Meaning.{meaning, sequence_of};
 ghost use Rattle.rex_model.specs.Positions.{position_count};

@@ -1,3 +1,4 @@
+// Whether a regular expression has the empty word.
 ghost use Rattle.std.specs.Prelude.{◌≡◌, ◌↔◌, IsTrue, [], map};
 ghost use Rattle.rex_model.specs.Language.{Language};
 ghost use Rattle.rex_model.specs.Meaning.{meaning, sequence_of, alternative_of};

@@ -1,3 +1,4 @@
+// Which positions follow a position in a regular expression.
 ghost use Rattle.std.specs.Prelude.{◌≡◌, ◌↔◌, ◌⊎◌, ◌+◌, ◌^◌, ◌<◌, ◌≤◌, IsTrue, length, map};
 ghost use Rattle.ck_base.specs.BitSet.{Adds};
 ghost use Rattle.rex_model.specs.Language.{bytes, star};

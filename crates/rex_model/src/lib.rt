@@ -38,7 +38,9 @@ mod winner;
 pub use counts::positions;
 pub use empty_word::nullable;
 pub use follows::follow;
-pub use laws::{at_most_one_run, at_most_one_winner, some_run};
+pub use laws::{
+    at_most_one_run, at_most_one_winner, no_winner_at_end, same_tokens_after, same_winner, some_run,
+};
 pub use position_sets::PositionSets;
 pub use regex::Regex;
 pub use rules::{ScanRule, ScanRules};

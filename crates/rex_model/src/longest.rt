@@ -1,3 +1,4 @@
+// The longest front of a text that an expression has.
 ghost use Rattle.std.specs.Prelude.{◌≡◌, ◌^◌, ◌<◌, ◌≤◌};
 ghost use Rattle.rex_model.specs.within.Longest.{IsLongest};
 ghost use Rattle.rex_model.specs.Meaning.{meaning};

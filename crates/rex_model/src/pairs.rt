@@ -1,3 +1,4 @@
+// How a rule matches at a place: the token's length and its context's.
 ghost use Rattle.std.specs.Prelude.{ℕ, ◌≡◌, ◌+◌, ◌^◌, ◌<◌, ◌≤◌, length, drop, Some};
 ghost use Rattle.rex_model.specs.Meaning.{meaning};
 ghost use Rattle.rex_model.specs.Positions.{position_count};

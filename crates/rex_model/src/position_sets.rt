@@ -1,3 +1,4 @@
+// Sets of positions of rules, and the most that rules may have.
 ghost use Rattle.std.specs.Prelude.{◌≡◌, ◌-◌, ◌^◌, ◌<◌, IfOk, map, min};
 ghost use Rattle.rex_model.specs.Positions.{position_count, HasRoomFor};
 ghost use Rattle.rex_model.specs.RuleMeaning.{context_of, rule_of, rules_of};

@@ -1,3 +1,4 @@
+// Scanner rules: start states, expression, context, token or skip, next state.
 use crate::regex::Regex;
 use ck_base::{Bits, Names};
 

@@ -1,3 +1,4 @@
+// Which positions of an expression take a byte.
 ghost use Rattle.std.specs.Prelude.{ℕ, ◌≡◌, ◌+◌, ◌^◌, ◌<◌, ◌≤◌, length, map};
 ghost use Rattle.ck_base.specs.BitSet.{Adds};
 ghost use Rattle.rex_model.specs.Language.{bytes};

@@ -1,3 +1,4 @@
+// The winning rule at a place, straight from its definition: the model of each faster scanner.
 ghost use Rattle.std.specs.Prelude.{◌≡◌, ◌+◌, ◌^◌, ◌<◌, ◌≤◌, length, map, IfOk, IsSome, None};
 ghost use Rattle.rex_model.specs.Positions.{HasRoomFor};
 ghost use Rattle.rex_model.specs.RuleMeaning.{rule_of, rules_of};

@@ -56,13 +56,15 @@ module _ (dfa : Automaton) (s : ℕ) (text : List ℕ) where
   abbrev pub MatchFound : Option Found → Type 0
   MatchFound found = MatchOption found (AcceptsNothing dfa s text) (λ found. IsLongestRun dfa s text found.rule found.len)
 
+  -- from no state on no byte leads to any
+  pub stays_nowhere : (i state l : ℕ) → state ≡ nowhere → state ≡ run dfa s (take i text) → i ≤ l → run dfa s (take l text) ≡ nowhere
+  stays_nowhere i state l at is past =
+      ap (run dfa s) (ap (λ k. take k text) (omega arith) ∙ take-add i (l - i) text) ∙ run-append dfa s (take i text) (take (l - i) (drop i text))
+      ∙ ap (λ t. run dfa t (take (l - i) (drop i text))) (sym is ∙ at) ∙ run_nowhere dfa (take (l - i) (drop i text))
+
   -- in no state nothing more is accepted
   accepts_none : (i state l j : ℕ) → state ≡ nowhere → state ≡ run dfa s (take i text) → i ≤ l → accepted dfa (run dfa s (take l text)) ≡ Some j → ⊥
-  accepts_none i state l j at is past some =
-      let on : run dfa s (take l text) ≡ nowhere =
-      ap (run dfa s) (ap (λ k. take k text) (omega arith) ∙ take-add i (l - i) text) ∙ run-append dfa s (take i text) (take (l - i) (drop i text))
-      ∙ ap (λ t. run dfa t (take (l - i) (drop i text))) (sym is ∙ at) ∙ run_nowhere dfa (take (l - i) (drop i text)) in
-      none-some j (sym (ap (accepted dfa) on) ∙ some)
+  accepts_none i state l j at is past some = none-some j (sym (ap (accepted dfa) (stays_nowhere i state l at is past)) ∙ some)
 
   pub run_stops : (i state : ℕ) (found : Option Found) → Running i state found → i ≤ length text → state ≡ nowhere → MatchFound found
   run_stops i state None running within at = λ l j below some. elim (cases_lt i l) [

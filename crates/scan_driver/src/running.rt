@@ -1,3 +1,4 @@
+// An automaton run over a text: the last place at which it accepts.
 ghost use Rattle.std.specs.Prelude.{◌≡◌, ◌≢◌, ◌<◌, MatchOption, length};
 ghost use Rattle.rex_model.specs.Runs.{AcceptsNothing, IsLongestRun, IsStateOf, accepted, moved, nowhere};
 ghost use Rattle.rex_model.specs.TableMeaning.{automaton_of};

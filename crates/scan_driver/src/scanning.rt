@@ -1,3 +1,4 @@
+// The next token of a text, by tables.
 ghost use Rattle.std.specs.Prelude.{ℕ, ◌≡◌, ◌<◌, List, length, MatchOption};
 ghost use Rattle.rex_model.specs.Rules.{Rule};
 ghost use Rattle.rex_model.specs.Run.{Scans};

@@ -41,6 +41,7 @@ set_of_spans spans byte = list_any (λ span. is_between span.low span.high byte)
 abbrev pub set_of : List ℕ → ℕ → Bool
 set_of words byte = not (bit_and (slice_index words (byte / 64)) (2 ^ (byte % 64)) == 0)
 
+-- a byte of the set
 abbrev pub IsIn : (ℕ → Bool) → ℕ → Type 0
 IsIn set byte = (byte < 256) × IsTrue (set byte)
 
@@ -51,6 +52,7 @@ pub record AddsSpan (old new : List ℕ) (low high : ℕ) : Type 0 where
   pub kept : (byte : ℕ) → IsIn (set_of old) byte → IsIn (set_of new) byte
   pub more : (byte : ℕ) → low ≤ byte → byte ≤ high → IsIn (set_of new) byte
 
+-- no character of a class stands at the front
 abbrev pub HasNoChar : List ℕ → Type 0
 HasNoChar bytes = (byte : ℕ) (rest : List ℕ) → ClassChar bytes byte rest → ⊥
 
@@ -78,6 +80,7 @@ pub record IsClassOf (bytes words rest : List ℕ) : Type 0 where
   pub same : set_of words ≡ set_of_spans spans
   pub size : length words ≡ 4
 
+-- no list of spans up to a closing bracket stands at the front
 abbrev pub HasNoClass : List ℕ → Type 0
 HasNoClass bytes = (inside rest : List ℕ) (spans : List Span) → bytes ≡ inside ++ 93 ∷ rest → 0 < length inside → Listed inside spans → ⊥
 
@@ -97,5 +100,6 @@ pub record IsSetAt (bytes words rest : List ℕ) : Type 0 where
   pub are : bytes ≡ inside ++ 93 ∷ rest
   pub says : ClassSays inside (set_of words)
 
+-- no class up to a closing bracket stands at the front
 abbrev pub HasNoSet : List ℕ → Type 0
 HasNoSet bytes = (inside rest : List ℕ) (set : ℕ → Bool) → bytes ≡ inside ++ 93 ∷ rest → ClassSays inside set → ⊥

@@ -88,6 +88,7 @@ LinesGrow lines =
     (i j : ℕ) (a b : Line) → slice_get lines i ≡ Some a → slice_get lines j ≡ Some b → i < j
     → a.number < b.number
 
+-- line numbers rise
 abbrev pub Grow : {S : Type 0} → List (Declared S) → Type 0
 Grow {S} ds =
     (i j : ℕ) (d e : Declared S) → slice_get ds i ≡ Some d → slice_get ds j ≡ Some e → i < j

@@ -82,9 +82,11 @@ pub record Seen {V W : Type 0} (f : V → W) (P : Part V) (tokens : List Lexeme)
 abbrev pub Follow : Type 1
 Follow = List Lexeme → Type 0
 
+-- whatever follows
 abbrev pub Anything : Follow
 Anything rest = Unit {0}
 
+-- nothing follows
 abbrev pub Nothing : Follow
 Nothing rest = rest ≡ []
 

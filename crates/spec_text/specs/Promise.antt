@@ -61,6 +61,7 @@ pub record FirstSectionFault (file : List ℕ) (line : ℕ) : Type 0 where
   pub read : FileLines file lines count
   pub fault : SectionFault (count + 1) lines line
 
+-- the first fault of the order of sections, or that memory was wanted
 abbrev pub IsSectionFault : List ℕ → SpecFault → Type 0
 IsSectionFault file (Bad line kind) = FirstSectionFault file line × (kind ≡ section_kind)
 IsSectionFault file NoMemory = Unit {0}

@@ -43,6 +43,7 @@ pub record Moves (state : State) (at : ℕ) (line : Line) (next : State) (ended 
 abbrev pub Stuck : State → ℕ → Line → Type 0
 Stuck state at line = (lines : List Line) (all : List Part) → Left state at (line ∷ lines) all → ⊥
 
+-- the part that is open, if any
 abbrev pub parts_in : Option Part → List Part
 parts_in None = []
 parts_in (Some part) = part ∷ []
@@ -53,6 +54,7 @@ IsMarkOf name (Head section) = name ≡ name_of section
 IsMarkOf name End = name ≡ codes "END"
 IsMarkOf name Plain = ((section : Section) → name ≡ name_of section → ⊥) × (name ≡ codes "END" → ⊥)
 
+-- a fault of these lines behind so many others, or that memory was wanted
 abbrev pub IsFaultOf : ℕ → List Line → SpecFault → Type 0
 IsFaultOf past lines (Bad line kind) = SectionFault past lines line × (kind ≡ section_kind)
 IsFaultOf past lines NoMemory = Unit {0}

@@ -6,6 +6,7 @@ use Rattle.spec_text.specs.declared.section.Section.{Section}
 use Rattle.spec_text.specs.declared.section.Section.TheVariants.{Rex, Lalr, Ell, Ast, Ag, Puma, Beg}
 use Rattle.spec_text.specs.declared.section.Part.{Part}
 
+-- the word at a section's head
 abbrev pub name_of : Section → List ℕ
 name_of Rex = codes "REX"
 name_of Lalr = codes "LALR"
@@ -30,9 +31,11 @@ pub record IsAlone (name : List ℕ) (line : Line) : Type 0 where
   pub good : line.bad ≡ None
   pub said : said_by line ≡ word name ∷ []
 
+-- a section's head line
 abbrev pub IsHead : Section → Line → Type 0
 IsHead section = IsAlone (name_of section)
 
+-- the line that ends the last section
 abbrev pub IsEnd : Line → Type 0
 IsEnd = IsAlone (codes "END")
 
@@ -60,6 +63,7 @@ pub data Stand : ℕ → ℕ → List Line → List Part → Type 0 where
       → Stand k at (line ∷ (inside ++ rest))
       (part_from section at (at + 1 + length inside) ∷ parts)
 
+-- lines make these sections, in the order of sections, each at most once
 abbrev pub AreSections : List Line → List Part → Type 0
 AreSections lines parts = Stand 0 0 lines parts
 

@@ -17,6 +17,7 @@ sort_of (text bytes) = Text
 sort_of (class set) = Class
 sort_of (sign bytes) = Sign
 
+-- a token's sort and place
 abbrev pub span_of : Placed → SpecToken
 span_of token = record { sort = sort_of token.said; from = token.from; to = token.to }
 
@@ -26,9 +27,11 @@ pub record SpanLine : Type 0 where
   pub bad : Option Kind
   pub spans : List SpecToken
 
+-- a stored line with its tokens' places
 abbrev pub spans_in : SpecLine → SpanLine
 spans_in line = record { number = line.number; bad = line.bad; spans = line.tokens.items }
 
+-- a line with its tokens' places
 abbrev pub spans_of : Line → SpanLine
 spans_of line =
     record { number = line.number; bad = line.bad; spans = map span_of line.tokens }

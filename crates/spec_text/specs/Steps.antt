@@ -99,6 +99,7 @@ abbrev pub IsLine : ℕ → List ℕ → ℕ → Option SpecLine → Type 0
 IsLine at bytes number None = Reads at bytes [] None
 IsLine at bytes number (Some line) = IsSpeaking at bytes number line
 
+-- the line that is there, if any
 abbrev pub lines_in : Option SpecLine → List SpecLine
 lines_in None = []
 lines_in (Some line) = line ∷ []

@@ -9,6 +9,7 @@ pub record TextLine : Type 0 where
   pub at : ℕ
   pub bytes : List ℕ
 
+-- a byte other than a line feed
 abbrev pub is_no_feed : ℕ → Bool
 is_no_feed byte = not (byte == 10)
 

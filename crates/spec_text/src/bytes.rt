@@ -1,3 +1,4 @@
+// Kinds of bytes in a specification.
 ghost use Rattle.std.specs.Prelude.{◌≡◌};
 ghost use Rattle.std.specs.List.{list_all};
 ghost use Rattle.spec_text.specs.Bytes.{is_blank, is_letter, is_digit, is_word_byte, is_line_byte, is_text_byte, is_sign_byte, is_sign_pair};

@@ -1,3 +1,4 @@
+// Classes of bytes in brackets, with spans and escapes.
 ghost use Rattle.std.specs.Prelude.{◌≡◌, ℕ, List, nat_lt, ◌&&◌, not, ◌+◌, ◌<◌, ◌≤◌, ◌∷◌, true, length, MatchOption, IfSome};
 ghost use Rattle.std.specs.Char.{digit_value};
 ghost use Rattle.spec_text.specs.Escapes.{is_hex, named};

@@ -1,3 +1,4 @@
+// Laws on tokens, lines and sections, on empty functions.
 ghost use Rattle.spec_text.specs.Laws.{OneBegin, OneFile, OneOrder, OneReading, OneSection, OneSectionFault, SomeFile, SomeOrder, SomeReading, SomeRex};
 
 /// Law: a line begins with one token at most.

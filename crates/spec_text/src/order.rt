@@ -1,3 +1,4 @@
+// The order of sections, as a machine over section lines.
 ghost use Rattle.std.specs.Prelude.{◌≡◌, ℕ, ◌+◌, ◌^◌, ◌<◌, ◌-◌, ◌↔◌, ◌++◌, IsTrue, List, length, MatchOption, IfOk, IfErr, IfSome};
 ghost use Rattle.ck_base.specs.declared.fault.Kind.TheVariants.{Section as section_kind};
 ghost use Rattle.ck_base.specs.declared.fault.SpecFault.TheVariants.{Bad as bad};

@@ -1,3 +1,4 @@
+// Parts of a line: words, signs, names, numbers, texts, and lists of names.
 ghost use Rattle.std.specs.Prelude.{◌≡◌, ◌↔◌, ℕ, List, ◌∷◌, map, IsTrue, IfOk, MatchOption, codes};
 ghost use Rattle.spec_text.specs.Lexemes.{Lexeme, word, sign};
 ghost use Rattle.spec_text.specs.Parts.{Fixed, ListOf, Name, NoReading, NotFirst, Number, Reading, Text};

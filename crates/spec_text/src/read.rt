@@ -1,3 +1,4 @@
+// A specification read into its sections, or its first fault.
 ghost use Rattle.std.specs.Prelude.{◌≡◌, ◌≤◌, ◌<◌, ◌-◌, ◌↔◌, ℕ, List, Some, length, take, drop, slice_get, Contains, IsTrue, IfOk, IfErr, MatchOption};
 ghost use Rattle.ck_base.specs.Found.{HasNo};
 ghost use Rattle.spec_text.specs.Promise.{AreSectionsOf, HasSection, IsFirstOther, IsSectionFault, IsSectionOf};

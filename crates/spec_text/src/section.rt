@@ -1,3 +1,4 @@
+// Sections of a specification: their heads and lines.
 use crate::line::SpecLine;
 
 /// A section of a specification.

@@ -1,3 +1,4 @@
+// Texts in quotes given their bytes.
 ghost use Rattle.std.specs.Prelude.{◌≡◌, ℕ, List, ◌∷◌, MatchOption, IfOk};
 ghost use Rattle.spec_text.specs.Lexemes.{Quoted};
 ghost use Rattle.spec_text.specs.Steps.{MeansFirst, MeansNothing};

@@ -1,3 +1,4 @@
+// Tokens of a specification's lines.
 ghost use Rattle.std.specs.Prelude.{◌≡◌, ◌↔◌, ◌+◌, ◌^◌, ◌<◌, ◌≤◌, ◌∷◌, length, true, false, IsTrue, IfOk, MatchOption, IfSome, slice_get, slice_index};
 ghost use Rattle.std.specs.List.{prefix_len, list_all};
 ghost use Rattle.std.specs.Str.Parse.{digits_value};

@@ -1,5 +1,5 @@
 -- The definitions, tried on cases where a wrong reading would differ.
-use Rattle.std.proofs.Common.{◌≡◌, ℕ, zero, suc, ◌<◌, ◌≤◌, pos, true, false, List, [], ◌∷◌, None, Ok, Err, codes, refl, sym, ◌∙◌, arith}
+use Rattle.std.proofs.Common.{◌≡◌, ℕ, zero, suc, ◌<◌, ◌≤◌, pos, true, false, List, [], ◌∷◌, map, None, Ok, Err, codes, refl, sym, ap, ◌∙◌, arith}
 use Rattle.value_store.specs.MadeTrees.{MadeTree, MadeTrees, made, no_trees, and_trees, type_of}
 use Rattle.value_store.specs.declared.value.ValType.{ValType}
 use Rattle.value_store.specs.declared.value.ValType.TheVariants as ty
@@ -19,12 +19,12 @@ use Rattle.cfg_model.specs.Derivation as derivation
 use Rattle.cfg_model.specs.declared.symbol.Sym.TheVariants.{T}
 use Rattle.parse_driver.specs.declared.step.Step.TheVariants as act
 use Rattle.parse_driver.specs.declared.tokens.TokenRef.{TokenRef}
-use Rattle.node_spec.specs.Nodes.{Nodes}
+use Rattle.node_model.specs.Nodes.{Nodes}
 use Rattle.tree_store.specs.Conforms.{IsOfKind, is_int, is_bool, is_text}
 use Rattle.tree_store.specs.Forest.{Node, node_at, children_at, IsChild}
 use Rattle.tree_build.specs.Built.{built, built_value, tokens_in_source, IsReading, LiesInSource, IsBuilt}
 use Rattle.tree_build.specs.Fitting.{as_field, TreeFits, tree_fits, TreesFit, no_tree_fits, and_tree_fits, FieldsFit, no_field_fits, and_field_fits, HasFewItems}
-use Rattle.tree_build.specs.Shown.{pure_count, Show, none_shown, and_shown, IsTreeOf}
+use Rattle.tree_build.specs.Shown.{PureNode, pure_count, Show, none_shown, and_shown, nodes_of_value, pure_node, IsTreeOf}
 use Rattle.tree_build.specs.declared.error.BuildError.TheVariants as error
 use Rattle.tree_build.proofs.TokensListed.{shifted_yield}
 
@@ -137,6 +137,43 @@ other_order shows =
     first_children : (nodes : List Node) (n : ℕ) (ns : List ℕ) (t : ℕ) (children fields more : PureValues)
         → Show [] [] nodes (n ∷ ns) (and_pure (pure.node t children fields) more) → Show [] [] nodes (children_at nodes n) children
     first_children nodes _ _ _ _ _ _ (and_shown n ns t children fields more within is below are rest) = below
+
+-- its nodes: those of the children, in order, and the root behind them
+nodes_in_order : nodes_of_value over_two ≡ map (pure_node [] []) (three (0 ∷ 1 ∷ []))
+nodes_in_order = refl
+
+-- the type of the first of some nodes
+abbrev first_type_of : List PureNode → ℕ
+first_type_of [] = 9
+first_type_of (n ∷ ns) = n.ty
+
+-- with the places of the children exchanged, and their numbers, the nodes show the value too
+abbrev exchanged : List Node
+exchanged = without_fields 2 [] ∷ without_fields 1 [] ∷ without_fields 0 (1 ∷ 0 ∷ []) ∷ []
+
+exchanged_shows : Show [] [] exchanged (2 ∷ []) (and_pure over_two no_pure)
+exchanged_shows = and_shown 2 [] 0 _ _ _ (omega arith) refl
+    (and_shown 1 (0 ∷ []) 1 _ _ _ (omega arith) refl none_shown refl
+    (and_shown 0 [] 2 _ _ _ (omega arith) refl none_shown refl none_shown))
+    refl none_shown
+
+-- but they aren't its nodes, and so not its tree
+exchanged_is_none : (types : TypeTable) → IsTreeOf [] [] types exchanged over_two → ⊥
+exchanged_is_none types is = let first : 2 ≡ 1 = ap first_type_of is.are in omega (arith, first)
+
+-- nor is the root in front of its children
+preorder_is_none : (types : TypeTable)
+    → IsTreeOf [] [] types (without_fields 0 (1 ∷ 2 ∷ []) ∷ without_fields 1 [] ∷ without_fields 2 [] ∷ []) over_two → ⊥
+preorder_is_none types is = let first : 0 ≡ 1 = ap first_type_of is.are in omega (arith, first)
+
+-- of the second child's children the first has the number behind the first child's nodes
+abbrev deep : PureValue
+deep = pure.node 0 (and_pure (pure.node 1 no_pure no_pure) (and_pure over_two no_pure)) no_pure
+
+numbers_go_on : nodes_of_value deep
+    ≡ map (pure_node [] []) (without_fields 1 [] ∷ without_fields 1 [] ∷ without_fields 2 [] ∷ without_fields 0 (1 ∷ 2 ∷ [])
+    ∷ without_fields 0 (0 ∷ 3 ∷ []) ∷ [])
+numbers_go_on = refl
 
 -- two nodes side by side are no tree, whatever they show
 side_by_side : (types : TypeTable) (v : PureValue) → IsTreeOf [] [] types (without_fields 1 [] ∷ without_fields 1 [] ∷ []) v → ⊥

@@ -1,5 +1,8 @@
+pub mod Conforming
 mod Examples
 pub mod NextPlace
+pub mod NodesLinked
+pub mod NodesNumbered
 pub mod NodeLaid
 pub mod Replayed
 pub mod Showing

@@ -13,10 +13,11 @@ use Rattle.tree_store.specs.Conforms.{IsOfKind, Fits, Conforms}
 use Rattle.tree_store.specs.Forest.{Node, node_at, children_at, IsChild, IsForest, AreRoots, Under, here, below}
 use Rattle.tree_store.proofs.NodeAdded.{nat_lt_tells, child_of_more, child_kept, child_new}
 use Rattle.tree_build.specs.Fitting.{HasFewItems, as_field, FieldsFit, no_field_fits, and_field_fits, TreeFits, TreesFit, no_tree_fits, and_tree_fits}
-use Rattle.tree_build.specs.within.Laying.{joined, trees_count, Stand, none_stand, and_stands, Due, to_make, UnderOne, Laying}
+use Rattle.tree_build.specs.within.Laying.{joined, trees_count, Stand, none_stand, and_stands, Due, to_make, UnderOne, AreNodesOf, Laying}
 use Rattle.tree_build.specs.declared.laying.Task.{Task}
 use Rattle.tree_build.specs.declared.laying.Task.TheVariants as task
 use Rattle.tree_build.proofs.Visiting.{parts_of, as_many_trees}
+use Rattle.tree_build.proofs.NodesNumbered.{nodes_of_more}
 
 -- numbers behind others
 behind : (a b : List ℕ) (i j c : ℕ) → j ≡ length a + i → slice_get b i ≡ Some c → slice_get (a ++ b) j ≡ Some c
@@ -298,6 +299,7 @@ added cells table whole c tasks done nodes front x new now laying e is kids are 
       due = m.rest;
       stand = stand_joined (nodes ++ x ∷ []) (take front done) (length nodes ∷ []) m.below (and_trees (tree_at cells c) no_trees) (stand_kept nodes x (take front done) m.below before)
           (node_stands nodes x (tree_at cells c) is under are);
+      are = nodes_of_more m.below (tree_at cells c) done nodes front x (sym at) (subst (λ ts. AreNodesOf ts done nodes) m.are laying.are) is kids are;
       forest = forest_more nodes x (take front done) laying.forest roots;
       roots = roots_more nodes x (take front done) laying.forest roots;
       under = under_more nodes x (take front done) all;

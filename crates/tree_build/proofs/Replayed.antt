@@ -24,7 +24,7 @@ use Rattle.parse_driver.specs.Parse.{move_of}
 use Rattle.parse_driver.specs.Stream.{terminal_of}
 use Rattle.parse_driver.specs.declared.step.Step.{Step}
 use Rattle.parse_driver.specs.declared.tokens.TokenRef.{TokenRef}
-use Rattle.node_spec.specs.Nodes.{Nodes, symbol_type}
+use Rattle.node_model.specs.Nodes.{Nodes, symbol_type}
 use Rattle.tree_build.specs.Built.{built, build_of, built_value}
 use Rattle.tree_build.specs.within.Replaying.{beside, left_in, left_of, types_of, Leads, all_done, then_shift, then_reduce, Replaying}
 
@@ -90,13 +90,13 @@ started s l g nodes tokens cells read whole moves values derivation e none =
     record {
       done = empty;
       leads = subst (λ ms. Leads terminal_of g whole ms empty) (append-nil (postorder whole) ∙ sym e) leads;
-      are = subst (λ vs. AreOf (λ family. false) cells vs []) (sym none) no_values;
+      are = subst (λ vs. AreOf (λ node family. false) cells vs []) (sym none) no_values;
       show = ap (map (pure_of s l cells)) none;
       count = refl;
     }
 
 -- values, one more and cut in two
-are_more : {k : ℕ → Bool} {cells : List Cell} (vs : List Value) (ts : List ValType) (v : Value) (t : ValType) → AreOf k cells vs ts → IsOf k cells v t → AreOf k cells (vs ++ v ∷ []) (ts ++ t ∷ [])
+are_more : {k : ℕ → ℕ → Bool} {cells : List Cell} (vs : List Value) (ts : List ValType) (v : Value) (t : ValType) → AreOf k cells vs ts → IsOf k cells v t → AreOf k cells (vs ++ v ∷ []) (ts ++ t ∷ [])
 are_more _ _ v t no_values is = and_value v [] t [] is no_values
 are_more _ _ v t (and_value w vs u ts first are) is = and_value w (vs ++ v ∷ []) u (ts ++ t ∷ []) first (are_more vs ts v t are is)
 
@@ -112,7 +112,7 @@ none_dropped : {A : Type 0} (xs : List A) → drop 0 xs ≡ xs
 none_dropped [] = refl
 none_dropped (x ∷ xs) = refl
 
-are_front : {k : ℕ → Bool} {cells : List Cell} (vs : List Value) (ts us all : List ValType) (front : ℕ) → all ≡ ts ++ us → front ≡ length ts → AreOf k cells vs all
+are_front : {k : ℕ → ℕ → Bool} {cells : List Cell} (vs : List Value) (ts us all : List ValType) (front : ℕ) → all ≡ ts ++ us → front ≡ length ts → AreOf k cells vs all
     → AreOf k cells (take front vs) ts × AreOf k cells (drop front vs) us
 are_front {k} {cells} vs [] us all zero e at are =
     (subst (λ xs. AreOf k cells xs []) (sym (none_taken vs)) no_values, subst (λ xs. AreOf k cells xs us) (sym (none_dropped vs)) (subst (λ xs. AreOf k cells vs xs) e are))
@@ -151,8 +151,8 @@ shifted_more s l g nodes tokens cells whole t moves vs now shifted e r =
     record {
       done = beside r.done (leaf t empty);
       leads = leads.rest;
-      are = subst (λ ts. AreOf (λ family. false) cells now ts) (sym (types_beside g nodes r.done (leaf t empty)))
-          (subst (λ xs. AreOf (λ family. false) cells xs (types_of g nodes r.done ++ ty.Token ∷ [])) (sym e) (are_more vs (types_of g nodes r.done) (value.Token shifted) ty.Token r.are (is_token shifted)));
+      are = subst (λ ts. AreOf (λ node family. false) cells now ts) (sym (types_beside g nodes r.done (leaf t empty)))
+          (subst (λ xs. AreOf (λ node family. false) cells xs (types_of g nodes r.done ++ ty.Token ∷ [])) (sym e) (are_more vs (types_of g nodes r.done) (value.Token shifted) ty.Token r.are (is_token shifted)));
       show = ap (map (pure_of s l cells)) e ∙ (map_more (pure_of s l cells) vs (value.Token shifted)
           ∙ (ap (λ xs. xs ++ token shifted ∷ []) r.show ∙ sym (built_beside nodes tokens 0 shifted r.done (leaf t empty) (omega (arith, at)))));
       count = (let y = ap (λ xs. length xs) (yield_beside r.done (leaf t empty)) in omega (arith, at, y, length-append (yield r.done) (t ∷ [])));
@@ -168,8 +168,8 @@ pub record Ripe (s l : List ℕ) (g : Cfg) (nodes : Nodes) (tokens : Tokens) (ce
   pub rest : Leads terminal_of g whole moves (beside before (node r children empty))
   pub enough : length right ≤ length vs
   pub front_is : front ≡ length vs - length right
-  pub front_are : AreOf (λ family. false) cells (take front vs) (types_of g nodes before)
-  pub env_are : AreOf (λ family. false) cells (drop front vs) (map (symbol_type nodes.families) right)
+  pub front_are : AreOf (λ node family. false) cells (take front vs) (types_of g nodes before)
+  pub env_are : AreOf (λ node family. false) cells (drop front vs) (map (symbol_type nodes.families) right)
   pub front_show : map (pure_of s l cells) (take front vs) ≡ built nodes tokens 0 before
   pub env_show : map (pure_of s l cells) (drop front vs) ≡ built nodes tokens (length (yield before)) children
   pub count : shifted ≡ length (yield before) + length (yield children)
@@ -187,7 +187,7 @@ record Reducing (g : Cfg) (whole : Forest TokenRef) (r : ℕ) (moves : List (Mov
 reducing : (g : Cfg) (whole : Forest TokenRef) (r : ℕ) (moves : List (Move TokenRef)) (done : Forest TokenRef) → Leads terminal_of g whole (reduce r ∷ moves) done → Reducing g whole r moves done
 reducing g whole _ _ _ (then_reduce r n w moves done before children is d e rest) = record { left = n; right = w; before = before; children = children; rule = is; derive = d; is = e; rest = rest }
 
-as_many_values : {k : ℕ → Bool} {cells : List Cell} (vs : List Value) (ts : List ValType) → AreOf k cells vs ts → length vs ≡ length ts
+as_many_values : {k : ℕ → ℕ → Bool} {cells : List Cell} (vs : List Value) (ts : List ValType) → AreOf k cells vs ts → length vs ≡ length ts
 as_many_values _ _ no_values = refl
 as_many_values _ _ (and_value v vs t ts is are) = (let e = as_many_values vs ts are in omega (arith, e))
 
@@ -220,14 +220,14 @@ ripe s l g nodes tokens cells whole r moves vs shifted front size sized at p =
       enough = omega (arith, all, sum, widths, length-append (types_of g nodes q.before) (types_of g nodes q.children), length-map q.right (symbol_type nodes.families));
       front_is = omega (arith, at, long);
       front_are = parts.0;
-      env_are = subst (λ ts. AreOf (λ family. false) cells (drop front vs) ts) kinds parts.1;
+      env_are = subst (λ ts. AreOf (λ node family. false) cells (drop front vs) ts) kinds parts.1;
       front_show = halves.0;
       env_show = halves.1;
       count = (let y = ap (λ f. length (yield f)) q.is in let z = ap (λ ts. length ts) (yield_beside q.before q.children) in omega (arith, leaves, y, z, length-append (yield q.before) (yield q.children)));
     }
 
 pub reduced : (s l : List ℕ) (g : Cfg) (nodes : Nodes) (tokens : Tokens) (old new : List Cell) (whole : Forest TokenRef) (r : ℕ) (moves : List (Move TokenRef)) (vs now : List Value) (shifted front : ℕ) (e : Expression) (v : Value)
-    → (ripe : Ripe s l g nodes tokens old whole r moves vs shifted front) → build_of nodes r ≡ e → Keeps old new → IsOf (λ family. false) new v (ty.Node (slice_index nodes.families ripe.left))
+    → (ripe : Ripe s l g nodes tokens old whole r moves vs shifted front) → build_of nodes r ≡ e → Keeps old new → IsOf (λ node family. false) new v (ty.Node (slice_index nodes.families ripe.left))
     → pure_of s l new v ≡ value_of tokens (map (pure_of s l old) (drop front vs)) e → now ≡ take front vs ++ v ∷ []
     → Replaying s l g nodes tokens new whole moves now shifted
 reduced s l g nodes tokens old new whole r moves vs now shifted front e v p builds keeps is value_is nows =
@@ -239,9 +239,9 @@ reduced s l g nodes tokens old new whole r moves vs now shifted front e v p buil
     record {
       done = beside p.before (node r p.children empty);
       leads = p.rest;
-      are = subst (λ ts. AreOf (λ family. false) new now ts) (sym (types_beside g nodes p.before (node r p.children empty)))
-          (subst (λ xs. AreOf (λ family. false) new xs (types_of g nodes p.before ++ ty.Node (slice_index nodes.families (left_of g r)) ∷ [])) (sym nows)
-          (are_more (take front vs) (types_of g nodes p.before) v (ty.Node (slice_index nodes.families (left_of g r))) (are-kept (take front vs) (types_of g nodes p.before) keeps p.front_are) (subst (IsOf (λ family. false) new v) kind is)));
+      are = subst (λ ts. AreOf (λ node family. false) new now ts) (sym (types_beside g nodes p.before (node r p.children empty)))
+          (subst (λ xs. AreOf (λ node family. false) new xs (types_of g nodes p.before ++ ty.Node (slice_index nodes.families (left_of g r)) ∷ [])) (sym nows)
+          (are_more (take front vs) (types_of g nodes p.before) v (ty.Node (slice_index nodes.families (left_of g r))) (are-kept (take front vs) (types_of g nodes p.before) keeps p.front_are) (subst (IsOf (λ node family. false) new v) kind is)));
       show = ap (map (pure_of s l new)) nows ∙ (map_more (pure_of s l new) (take front vs) v
           ∙ (ap₂ (λ xs x. xs ++ x ∷ []) (values-kept s l (take front vs) (types_of g nodes p.before) keeps p.front_are ∙ p.front_show)
           (value_is ∙ ap₂ (λ env f. value_of tokens env f) p.env_show (sym builds))
@@ -287,11 +287,11 @@ record One (cells : List Cell) (vs : List Value) : Type 0 where
   pub alone : vs ≡ value.Made cell ∷ []
   pub stands : IsMade cells cell
 
-one_node : (cells : List Cell) (vs : List Value) (f : ℕ) → AreOf (λ family. false) cells vs (ty.Node f ∷ []) → One cells vs
+one_node : (cells : List Cell) (vs : List Value) (f : ℕ) → AreOf (λ node family. false) cells vs (ty.Node f ∷ []) → One cells vs
 one_node cells _ f (and_value _ _ _ _ (is_made c _ isnt stands) no_values) = record { cell = c; alone = refl; stands = stands }
 one_node cells _ f (and_value _ _ _ _ (is_source n _ is) no_values) = (cc)
 
-one_tree : (g : Cfg) (nodes : Nodes) (cells : List Cell) (vs : List Value) (start : ℕ) (f : Forest TokenRef) → Derive terminal_of g (N start ∷ []) f → AreOf (λ family. false) cells vs (types_of g nodes f) → One cells vs
+one_tree : (g : Cfg) (nodes : Nodes) (cells : List Cell) (vs : List Value) (start : ℕ) (f : Forest TokenRef) → Derive terminal_of g (N start ∷ []) f → AreOf (λ node family. false) cells vs (types_of g nodes f) → One cells vs
 one_tree g nodes cells vs _ _ (cfg.rule r n w _ c _ is dc cfg.nothing) are = one_node cells vs _ are
 
 all_led : {K : Type 0} (terminal : K → ℕ) (g : Cfg) (whole done : Forest K) → Leads terminal g whole [] done → done ≡ whole
@@ -301,7 +301,7 @@ pub left_over : (s l : List ℕ) (g : Cfg) (nodes : Nodes) (tokens : Tokens) (ce
     → Derivation terminal_of g read whole → moves ≡ [] → Replaying s l g nodes tokens cells whole moves vs k → Left s l cells vs (built_value nodes tokens whole)
 left_over s l g nodes tokens cells read whole moves vs k derivation none r =
     let end = all_led terminal_of g whole r.done (subst (λ ms. Leads terminal_of g whole ms r.done) none r.leads) in
-    let one = one_tree g nodes cells vs g.start whole derivation.from_start (subst (λ f. AreOf (λ family. false) cells vs (types_of g nodes f)) end r.are) in
+    let one = one_tree g nodes cells vs g.start whole derivation.from_start (subst (λ f. AreOf (λ node family. false) cells vs (types_of g nodes f)) end r.are) in
     record {
       cell = one.cell;
       alone = one.alone;

@@ -1,37 +1,24 @@
 -- Nodes that stand for made trees show their values.
-use Rattle.std.proofs.Common.{◌≡◌, ℕ, ◌<◌, arith, suc, zero, ◌+◌, ◌≤◌, true, false, nat_lt, ◌⊎◌, inl, inr, Ok, Err, Result, IfOk, ◌↔◌, List, [], ◌∷◌, length, map, reverse, Some, refl, sym, ap, ◌∙◌, subst, ap₂}
+use Rattle.std.proofs.Common.{◌≡◌, ℕ, ◌<◌, arith, suc, zero, ◌+◌, ◌≤◌, true, false, nat_lt, ◌⊎◌, inl, inr, Ok, Err, Result, IfOk, ◌↔◌, List, [], ◌∷◌, length, map, reverse, Some, refl, sym, ap, ◌∙◌, subst}
 use Rattle.std.specs.Prelude.{slice_get}
 use Rattle.value_store.specs.Cells.{Cell, tree_at, IsMade}
 use Rattle.value_store.specs.MadeTrees.{MadeTree, MadeTrees, made, no_trees, and_trees, node_count, node_count_all}
-use Rattle.value_store.specs.declared.value.Value.{Value}
 use Rattle.value_store.specs.declared.value.Value.TheVariants as value
 use Rattle.ast_types.specs.TypeTable.{TypeTable}
-use Rattle.expr_lang.specs.PureOf.{pure_field, pure_fields, pure_trees, pure_tree}
+use Rattle.expr_lang.specs.PureOf.{pure_fields, pure_trees, pure_tree}
 use Rattle.expr_lang.specs.PureValues.{PureValue, and_pure, no_pure}
 use Rattle.tree_store.specs.Forest.{Node, children_at, IsRoot, IsChild, AreRoots, Under, here, below}
-use Rattle.node_spec.specs.Nodes.{Nodes}
+use Rattle.node_model.specs.Nodes.{Nodes}
 use Rattle.tree_store.proofs.NodeAdded.{nat_lt_tells}
 use Rattle.tree_build.specs.Built.{IsBuilt}
 use Rattle.tree_build.specs.declared.error.BuildError.{BuildError}
 use Rattle.tree_build.specs.declared.error.BuildError.TheVariants as error
-use Rattle.tree_build.specs.Fitting.{as_field, TreeFits}
-use Rattle.tree_build.specs.Shown.{Show, none_shown, and_shown, pure_count, pure_count_all, IsTreeOf}
+use Rattle.tree_build.specs.Fitting.{TreeFits}
+use Rattle.tree_build.specs.Shown.{Show, none_shown, and_shown, pure_count, pure_count_all, all_nodes_from, pure_node, IsTreeOf}
 use Rattle.tree_build.specs.within.Laying.{Stand, none_stand, and_stands, Due, all_done, to_visit, to_come, Laying, UnderOne}
+use Rattle.tree_build.proofs.NodesNumbered.{fields_shown, nodes_of_whole}
 use Rattle.tree_build.specs.declared.laying.Task.{Task}
 use Rattle.tree_build.specs.declared.laying.Task.TheVariants as task
-
-field_shown : (s l : List ℕ) (v : Value) → pure_field s l (as_field v) ≡ pure_field s l v
-field_shown s l (value.Int z) = refl
-field_shown s l (value.Bool b) = refl
-field_shown s l (value.Text t) = refl
-field_shown s l (value.Map m) = refl
-field_shown s l (value.Token k) = refl
-field_shown s l (value.Src n) = refl
-field_shown s l (value.Made c) = refl
-
-fields_shown : (s l : List ℕ) (vs : List Value) → pure_fields s l (map as_field vs) ≡ pure_fields s l vs
-fields_shown s l [] = refl
-fields_shown s l (v ∷ vs) = ap₂ (λ x y. and_pure x y) (field_shown s l v) (fields_shown s l vs)
 
 pub show_of : (s l : List ℕ) (nodes : List Node) (ns : List ℕ) (ts : MadeTrees) → Stand nodes ns ts → Show s l nodes ns (pure_trees s l ts)
 show_of s l nodes _ _ none_stand = none_shown
@@ -99,6 +86,7 @@ laid_out cells table whole tasks done nodes e laying s l =
       under = under;
       shows = one.shown s l;
       count = (let n = laying.count in let m = ap (to_come cells) e in let k = count_tree s l whole in omega (arith, n, m, k));
+      are = subst (λ ts. map (pure_node s l) nodes ≡ all_nodes_from 0 (pure_trees s l ts)) due (laying.are.nodes_are s l) ∙ nodes_of_whole s l whole;
       conforms = laying.conforms;
     }
 
@@ -110,6 +98,7 @@ begun cells table c tasks done nodes is_made fits e f g =
       trees = no_trees;
       due = to_visit c [] no_trees is_made fits all_done;
       stand = none_stand;
+      are = record { nodes_are = λ s l. refl; roots_are = λ s l. refl };
       forest = record { before = λ p i c child. absurd (no_child p i c child); one_place = λ p i q j c child other. absurd (no_child p i c child) };
       roots = record { within = λ k c at. absurd (nothing [] k c refl at); no_child = λ k c at. absurd (nothing [] k c refl at); differ = λ j k c at other. absurd (nothing [] j c refl at) };
       under = λ n within. absurd (omega (arith, within));

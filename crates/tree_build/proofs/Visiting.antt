@@ -111,6 +111,7 @@ visited cells table whole c tasks new done nodes visits laying = record {
   trees = laying.trees;
   due = visited_due cells table whole c tasks new laying.trees visits laying.due;
   stand = laying.stand;
+  are = laying.are;
   forest = laying.forest;
   roots = laying.roots;
   under = laying.under;

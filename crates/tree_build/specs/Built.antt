@@ -11,12 +11,13 @@ use Rattle.parse_driver.specs.declared.step.Step.{Step}
 use Rattle.parse_driver.specs.declared.step.Step.TheVariants as act
 use Rattle.parse_driver.specs.declared.tokens.TokenRef.{TokenRef}
 use Rattle.rex_model.specs.Place.{line_at, column_at}
-use Rattle.node_spec.specs.Nodes.{Nodes}
+use Rattle.node_model.specs.Nodes.{Nodes}
 use Rattle.tree_store.specs.Forest.{Node}
 use Rattle.tree_build.specs.Shown.{pure_count, IsTreeOf}
 use Rattle.tree_build.specs.declared.error.BuildError.{BuildError}
 use Rattle.tree_build.specs.declared.error.BuildError.TheVariants as error
 
+-- the expression that is there, else the number 0
 abbrev pub expression_in : Option Expression → Expression
 expression_in None = number (pos 0)
 expression_in (Some e) = e
@@ -41,9 +42,11 @@ built_value nodes tokens forest = nth (built nodes tokens 0 forest) 0
 abbrev pub token_text : List ℕ → TokenRef → List ℕ
 token_text source t = take (t.to - t.from) (drop t.from source)
 
+-- the line and column of a token in the source
 abbrev pub token_place : List ℕ → TokenRef → ℕ × ℕ
 token_place source t = (line_at source t.from, column_at source t.from)
 
+-- the texts and places of tokens
 abbrev pub tokens_in_source : List ℕ → List TokenRef → Tokens
 tokens_in_source source tokens = record { texts = map (token_text source) tokens; places = map (token_place source) tokens }
 

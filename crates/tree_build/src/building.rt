@@ -1,3 +1,4 @@
+// The tree's root cell, built step by step from a derivation.
 ghost use Rattle.std.specs.Prelude.{◌≡◌, ℕ, ◌+◌, ◌-◌, ◌^◌, ◌<◌, ◌≤◌, List, [], ◌∷◌, All, length, map, slice_get, Some, IfOk};
 ghost use Rattle.value_store.specs.Cells.{cells_of, tree_at, IsMade};
 ghost use Rattle.value_store.specs.declared.value.Value.{Value};
@@ -7,7 +8,7 @@ ghost use Rattle.cfg_model.specs.Derivation.{Forest, Move};
 ghost use Rattle.expr_lang.specs.Evaluated.{KeepsCells};
 ghost use Rattle.expr_lang.specs.Meaning.{meaning, tokens_in};
 ghost use Rattle.expr_lang.specs.PureOf.{pure_tree};
-ghost use Rattle.node_spec.specs.Nodes.{FitGrammar, nodes_of};
+ghost use Rattle.node_model.specs.Nodes.{FitGrammar, nodes_of};
 ghost use Rattle.parse_driver.specs.Parse.{move_of};
 ghost use Rattle.parse_driver.specs.declared.tokens.TokenRef.{TokenRef};
 ghost use Rattle.tree_build.specs.Built.{built_value, tokens_in_source, LiesInSource, IsReading, IsBuilt};
@@ -18,7 +19,7 @@ use crate::laying::lay_out;
 use crate::token_list::TokenList;
 use cfg_model::{Grammar, GrammarRule};
 use expr_lang::{Expr, eval};
-use node_spec::NodeSpec;
+use node_model::NodeSpec;
 use parse_driver::Step;
 use std::alloc::Global;
 use tree_store::Tree;

@@ -1,3 +1,4 @@
+// Why a derivation has no tree within the limits.
 ghost use Rattle.std.specs.Prelude.{◌≡◌};
 ghost use Rattle.tree_build.specs.declared.error.BuildError.TheVariants.{NoMemory};
 

@@ -1,3 +1,4 @@
+// A cell laid out as a tree, nodes in postorder, without recursion.
 ghost use Rattle.std.specs.Prelude.{◌≡◌, ℕ, ◌+◌, ◌*◌, ◌<◌, ◌≤◌, List, [], ◌∷◌, length, map, take, reverse, IfOk, OnOk, Err, ◌↔◌};
 ghost use Rattle.value_store.specs.Cells.{cells_of, tree_at, IsMade};
 ghost use Rattle.value_store.specs.MadeTrees.{MadeTree, type_of, children_of, fields_of, node_count};

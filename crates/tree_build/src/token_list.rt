@@ -1,3 +1,4 @@
+// The tokens of a source that a derivation has shifted.
 ghost use Rattle.std.specs.Prelude.{◌≡◌, ◌+◌, ◌^◌, ◌<◌, ◌++◌, ◌∷◌, [], All, length, map, IfOk};
 ghost use Rattle.tree_build.specs.Built.{token_place, LiesInSource};
 ghost use Rattle.tree_build.specs.within.Places.{IsPlace, span_of};

@@ -1,10 +1,10 @@
 -- The printed form of a tree, tried on cases that are worked by hand.
-use Rattle.std.proofs.Common.{◌≡◌, [], ◌∷◌, ◌++◌, pos, negsuc, true, false, None, Some, codes, refl}
+use Rattle.std.proofs.Common.{◌≡◌, ℕ, ◌+◌, List, [], ◌∷◌, ◌++◌, pos, negsuc, true, false, None, Some, codes, refl}
 use Rattle.std.specs.Fmt.{digits}
 use Rattle.value_store.specs.declared.value.ValType.TheVariants as ty
 use Rattle.ast_types.specs.TypeTable.{TypeTable}
-use Rattle.expr_lang.specs.PureValues.{PureValue, int, bool, text, node, no_pure, and_pure}
-use Rattle.tree_lines.specs.TreeText.{tree_text}
+use Rattle.expr_lang.specs.PureValues.{PureValue, int, bool, text, map_of, node, no_pure, and_pure}
+use Rattle.tree_lines.specs.TreeText.{value_text, lines_of, tree_text}
 
 -- one family, with the types `Leaf` without items, `Pair (l: F, n: int, r: F)`, and `More` that adds `(t: text, b: bool)` to it
 abbrev table : TypeTable
@@ -55,3 +55,22 @@ base_first : tree_text table 7 (node 2 (and_pure leaf (and_pure leaf no_pure))
     ≡ codes "7 More n=0 t=" ++ 34 ∷ 120 ∷ 34 ∷ codes " b=true" ++ 10 ∷ codes "8 Leaf" ++ 10 ∷ codes "8 Leaf" ++ 10 ∷ []
 unfolding digits
 base_first = refl
+
+-- a map is printed by the number of its pairs; an older one with the same key counts
+two_pairs : value_text (map_of (record { key = codes "a"; number = pos 1 } ∷ record { key = codes "a"; number = pos 2 } ∷ []))
+    ≡ codes "map(2)"
+unfolding digits
+two_pairs = refl
+
+no_pairs : value_text (map_of []) ≡ codes "map(0)"
+unfolding digits
+no_pairs = refl
+
+-- the rest of a line is asked for by the node's number in postorder: of a node over two leaves the root has number 2
+abbrev by_number : ℕ → List ℕ
+by_number n = (48 + n) ∷ []
+
+rest_by_number : lines_of table by_number 0 0 (node 1 (and_pure leaf (and_pure leaf no_pure)) no_pure)
+    ≡ codes "0 Pair2" ++ 10 ∷ codes "1 Leaf0" ++ 10 ∷ codes "1 Leaf1" ++ 10 ∷ []
+unfolding digits
+rest_by_number = refl

@@ -1,3 +1,5 @@
 mod Examples
 mod FieldsSoFar
+mod Placed
 mod Printed
+mod WithFields

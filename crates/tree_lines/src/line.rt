@@ -1,42 +1,75 @@
+// The line of a node in print: type, fields.
 ghost use Rattle.std.specs.Prelude.{◌≡◌, ◌<◌, ◌^◌, ◌++◌, ◌∷◌, length, OnOk};
 ghost use Rattle.ast_types.specs.Items.{field_types};
 ghost use Rattle.expr_lang.specs.PureOf.{pure_field, pure_fields};
 ghost use Rattle.tree_store.specs.Forest.{node_at};
-ghost use Rattle.tree_lines.specs.TreeText.{field_names, value_text, fields_text, node_line};
-ghost use Rattle.tree_lines.specs.within.Printing.{IsPrintable};
+ghost use Rattle.tree_lines.specs.TreeText.{field_names, value_text, fields_text, line_with};
 
+use crate::rest::RestOfLine;
 use ast_types::{Item, Types};
 use quoting::{push_decimal, push_int, push_quoted};
+use std::marker::Model;
 use tree_store::Tree;
 use value_store::{NoMemory, Texts, ValType, Value};
 
+/// What appends the fields of a node.
+#[derive(Drop)]
+pub struct Fields<'a> {
+    pub types: &'a Types,
+    pub texts: Texts<'a>,
+}
+
+impl<'a> Model for Fields<'a> {
+    ghost use Rattle.tree_lines.specs.within.Printing.{Base};
+
+    ghost Value = { Base };
+
+    ghost view = { λ f. record {
+      table = f.types.now;
+      source = f.texts.source.now;
+      literals = f.texts.literals.now;
+    } };
+}
+
+impl<'a> RestOfLine for Fields<'a> {
+    ghost use Rattle.tree_lines.specs.within.Printing.{fields_of_node, ConformToBase};
+
+    ghost rest = { fields_of_node };
+
+    ghost needs = { ConformToBase };
+
+    fn push_rest(&self, out: &mut Vec<u8>, tree: &Tree, node: u32) -> Result<(), NoMemory> {
+        let ty = tree.type_of(node);
+        push_fields(
+            out,
+            self.types.items(ty),
+            self.types.field_count(ty),
+            &self.texts,
+            tree,
+            node,
+        )
+    }
+}
+
 /// Appends the line of the node at the depth.
-pub(crate) fn push_line(
+pub(crate) fn push_line<R: RestOfLine>(
     out: &mut Vec<u8>,
     types: &Types,
-    texts: &Texts,
+    rest: &R,
     tree: &Tree,
     node: u32,
     depth: u32,
 ) -> Result<(), NoMemory>
     requires node { node < length tree.now }
-    requires printable { IsPrintable types.now (node_at tree.now node) }
+    requires there { (node_at tree.now node).ty < length types.now.types }
+    requires needs { R.needs rest.now tree.now }
     ensures { OnOk result (out.new.items ≡ out.old.items
-        ++ node_line types.now depth (node_at tree.now node).ty
-        (pure_fields texts.now.source.now texts.now.literals.now (node_at tree.now node).fields)) }
+        ++ line_with types.now depth (node_at tree.now node).ty (R.rest rest.now tree.now node)) }
 {
-    let ty = tree.type_of(node);
-    push_decimal(out, depth)?;
+    push_decimal(out, depth as u64)?;
     out.push(b' ')?;
-    out.extend_from_slice(types.type_name(ty))?;
-    push_fields(
-        out,
-        types.items(ty),
-        types.field_count(ty),
-        texts,
-        tree,
-        node,
-    )?;
+    out.extend_from_slice(types.type_name(tree.type_of(node)))?;
+    rest.push_rest(out, tree, node)?;
     out.push(b'\n')?;
     Ok(())
 }
@@ -77,12 +110,12 @@ fn push_field(out: &mut Vec<u8>, name: &[u8], value: Value, texts: &Texts) -> Re
     out.push(b' ')?;
     out.extend_from_slice(name)?;
     out.push(b'=')?;
-    push_value(out, value, texts)?;
+    push_field_value(out, value, texts)?;
     Ok(())
 }
 
-/// Appends the value of a field.
-fn push_value(out: &mut Vec<u8>, value: Value, texts: &Texts) -> Result<(), NoMemory>
+/// Appends the value of a field: an int, a bool or a text.
+fn push_field_value(out: &mut Vec<u8>, value: Value, texts: &Texts) -> Result<(), NoMemory>
     ensures { OnOk result (out.new.items ≡ out.old.items
         ++ value_text (pure_field texts.now.source.now texts.now.literals.now value)) }
 {
@@ -91,7 +124,8 @@ fn push_value(out: &mut Vec<u8>, value: Value, texts: &Texts) -> Result<(), NoMe
         Value::Bool(true) => out.extend_from_slice(b"true")?,
         Value::Bool(false) => out.extend_from_slice(b"false")?,
         Value::Text(text) => push_quoted(out, texts.bytes(text))?,
-        _ => push_int(out, 0)?,
+        // As a field counts what no field is.
+        Value::Map(_) | Value::Token(_) | Value::Src(_) | Value::Made(_) => push_int(out, 0)?,
     }
     Ok(())
 }

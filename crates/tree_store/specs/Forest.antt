@@ -8,6 +8,7 @@ pub record Node : Type 0 where
   pub children : List ℕ
   pub fields : List Value
 
+-- the node that is there, else one of type 0 without children and fields
 abbrev pub node_in : Option Node → Node
 node_in None = record { ty = 0; children = []; fields = [] }
 node_in (Some node) = node

@@ -9,6 +9,7 @@ pub record Labelled : Type 0 where
   pub ty : ℕ
   pub fields : List Value
 
+-- the type and fields of a stored node
 abbrev pub label_of : List Value → Label → Labelled
 label_of fields label = record { ty = label.ty; fields = take label.count (drop label.start fields) }
 

@@ -1,3 +1,4 @@
+// A law, on an empty function: a tree has one preorder and one postorder.
 ghost use Rattle.std.specs.Prelude.{◌≡◌, ℕ, List, [], ◌∷◌};
 ghost use Rattle.tree_store.specs.Orders.{Preorder, Postorder};
 

@@ -1,3 +1,4 @@
+// Trees of linked nodes, their making and their walk.
 ghost use Rattle.std.specs.Prelude.{◌≡◌, ℕ, ◌+◌, ◌<◌, ◌≤◌, IsTrue, List, slice_index, length, [], ◌∷◌, ◌++◌, IfOk, OnErr, OnOk, MatchOption, slice_get, slice_index_or, Some, vec_capacity, Err, ◌↔◌};
 ghost use Rattle.tree_store.specs.Conforms.{Conforms, Fits};
 ghost use Rattle.tree_store.specs.Folds.{Folds};
@@ -165,6 +166,14 @@ impl Tree {
     {
         let parent = link_at(self.parents.as_slice(), node as usize);
         if parent == NONE { None } else { Some(parent) }
+    }
+
+    /// The node's place among the children of its parent, which are numbered from 0.
+    pub fn number(&self, node: u32) -> u32
+        requires { node < length self.now }
+        ensures { (p i : ℕ) → IsChild self.now p i node → result ≡ i }
+    {
+        link_at(self.numbers.as_slice(), node as usize)
     }
 
     /// The one node without a parent. It is the last one.

@@ -1,3 +1,4 @@
+// The trait of what a walk calls at each node.
 ghost use Rattle.std.specs.Prelude.{ℕ, List, Bool, ◌<◌, length};
 ghost use Rattle.tree_store.specs.Forest.{Node};
 

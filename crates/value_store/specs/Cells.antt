@@ -13,10 +13,12 @@ pub data Cell : Type 0 where
   a_node : MadeTree → Cell
   a_part : Value → Cell
 
+-- the pairs of a map's cell, else none
 abbrev pub pairs_in : Option Cell → List Pair
 pairs_in (Some (a_map pairs)) = pairs
 pairs_in _ = []
 
+-- the tree of a node's cell, else one of type 0 without parts
 abbrev pub tree_in : Option Cell → MadeTree
 tree_in (Some (a_node t)) = t
 tree_in _ = made 0 no_trees []

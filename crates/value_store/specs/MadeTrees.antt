@@ -11,12 +11,15 @@ mutual
     no_trees : MadeTrees
     and_trees : MadeTree → MadeTrees → MadeTrees
 
+-- the type of a made tree
 abbrev pub type_of : MadeTree → ℕ
 type_of (made ty children fields) = ty
 
+-- the children of a made tree
 abbrev pub children_of : MadeTree → MadeTrees
 children_of (made ty children fields) = children
 
+-- the fields of a made tree
 abbrev pub fields_of : MadeTree → List Value
 fields_of (made ty children fields) = fields
 

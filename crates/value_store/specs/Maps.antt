@@ -14,6 +14,7 @@ pub record Entry : Type 0 where
   pub key : List ℕ
   pub number : ℤ
 
+-- an entry of a map with its key's bytes
 abbrev pub entry_of : List ℕ → List ℕ → Pair → Entry
 entry_of source literals pair = record { key = text_of source literals pair.key; number = pair.number }
 

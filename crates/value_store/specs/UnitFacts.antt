@@ -34,5 +34,6 @@ Says cells c (unit.Entry u) = SaysEntry cells c u
 Says cells c (unit.Node u) = SaysNode cells c u
 Says cells c (unit.Part v) = slice_get cells c ≡ Some (a_part v)
 
+-- a child as a unit of the store
 abbrev pub part_of_child : ℕ → StoreUnit
 part_of_child c = unit.Part (value.Made c)

@@ -1,3 +1,4 @@
+// The store of shared cells: maps and made nodes.
 ghost use Rattle.std.specs.Prelude.{min, map, vec_capacity, unwrap_or, is_some, IsSome, ◌≡◌, ℕ, ◌+◌, ◌<◌, ◌≤◌, ◌^◌, length, slice_get, Some, [], ◌++◌, IfOk, IsOk, OnErr, OnOk};
 ghost use Rattle.value_store.specs.Cells.{cells_of, pairs_at, tree_at, trees_at, a_part, IsMap, IsMade, AreMade, PutsPair, MakesNode};
 ghost use Rattle.value_store.specs.MadeTrees.{type_of, fields_of, children_of, child_at, node_count, node_count_all};

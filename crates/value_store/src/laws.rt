@@ -1,3 +1,4 @@
+// A law, on an empty function: old cells stay.
 ghost use Rattle.std.specs.Prelude.{◌≡◌, ℕ, ◌+◌, List, ◌++◌, length};
 ghost use Rattle.value_store.specs.Cells.{Cell, cells_of, pairs_at, tree_at, IsMap, IsMade};
 

@@ -1,3 +1,4 @@
+// Bytes of literals, each with its span.
 ghost use Rattle.std.specs.Prelude.{◌≡◌, ℕ, ◌+◌, ◌<◌, ◌^◌, List, [], ◌++◌, length, IfOk, OnOk, OnErr};
 ghost use Rattle.value_store.specs.Texts.{IsEnd, LiesInside, text_of};
 

@@ -1,3 +1,4 @@
+// The refusal that memory is wanted.
 use std::alloc::{AllocError, AllocFailed};
 
 /// Want of memory. It is the one answer without a cause: no clause says when it comes.

@@ -1,3 +1,4 @@
+// Names as bytes.
 ghost use Rattle.std.specs.Prelude.{◌≡◌, ℕ, List, IfOk};
 
 use crate::memory::NoMemory;

@@ -1,3 +1,4 @@
+// Texts as spans of a source or of literals.
 ghost use Rattle.std.specs.Prelude.{◌≡◌};
 ghost use Rattle.value_store.specs.Texts.{text_of};
 

@@ -1,3 +1,4 @@
+// Units of the store: one entry of a map, one node.
 use crate::text::Text;
 use crate::value::Value;
 

@@ -1,3 +1,4 @@
+// Types of values, and values.
 use crate::text::Text;
 
 /// The type of a value. That of a node has the number of its family.

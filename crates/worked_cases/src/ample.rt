@@ -1,3 +1,4 @@
+// Calls with ample memory of what no case reaches.
 use anyhow::{Result, bail};
 use ck_base::{Bits, NoMemory, SetNumbers};
 use ck_io::{Files, LoadError, NeverFails, WriteFault};

@@ -1,3 +1,4 @@
+// A worked case: words, files, devices, and what is wanted.
 use std::alloc::Global;
 
 /// A command line over files in memory, and what is wanted of its run.

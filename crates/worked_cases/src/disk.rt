@@ -1,3 +1,4 @@
+// Files of the disk and a program's own output, tried for real.
 use anyhow::{Result, bail};
 use ck_io::{DiskFiles, Failed, LoadError, Sink, StdSink, load};
 use std::fs;

@@ -1,3 +1,4 @@
+// Escapes of bytes in the text of cases.
 use anyhow::{Result, bail};
 use std::alloc::{AllocError, Global};
 use std::fmt::Write;

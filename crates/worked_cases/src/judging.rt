@@ -1,3 +1,4 @@
+// Cases run, compared and counted.
 use crate::case::{Case, Devices, Stream, Taking, Wanted};
 use crate::escapes::shown;
 use crate::running::run;

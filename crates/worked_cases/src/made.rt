@@ -1,3 +1,4 @@
+// Cases that are made: limits, long texts, a prefix of each length.
 use crate::case::{Case, File, Wanted};
 use crate::judging::{Tally, judge};
 use anyhow::Result;

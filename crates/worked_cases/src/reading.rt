@@ -1,3 +1,4 @@
+// Cases read from their text.
 use crate::case::{Case, File, Stream, Taking};
 use crate::escapes::push_line;
 use anyhow::{Context, Result, bail};

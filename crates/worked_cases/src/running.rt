@@ -1,3 +1,4 @@
+// A case run through the top call over devices in memory.
 use crate::case::{Case, Devices, Taking, Wanted};
 use ck_base::NoMemory;
 use ck_io::{Files, MemFiles, MemSink};

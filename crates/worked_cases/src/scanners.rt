@@ -1,3 +1,4 @@
+// Both scanners of one list of rules, compared at each place.
 ghost use Rattle.std.specs.Prelude.{◌≡◌, List, ◌^◌, ◌<◌, length};
 ghost use Rattle.rex_model.specs.RuleMeaning.{rules_of};
 ghost use Rattle.rex_model.specs.Rules.{Rule};

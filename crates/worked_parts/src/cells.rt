@@ -1,3 +1,4 @@
+// Cells of a store: nodes, doubled nodes, maps.
 use crate::lines::push_line;
 use std::alloc::Global;
 use value_store::{Cells, Literals, NoMemory, Text, TextOf, Texts, Value};

@@ -1,3 +1,4 @@
+// Grammars that the layers are called with.
 use crate::written::Written;
 
 /// Assignments with pointers: LALR(1), and not SLR(1).

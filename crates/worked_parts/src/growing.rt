@@ -1,3 +1,4 @@
+// A tree that grows node by node, in the order in which nodes are added.
 ghost use Rattle.std.specs.Prelude.{◌≡◌, ◌<◌, ◌≤◌, ◌^◌, ℕ, ⊤, [], ◌∷◌, IsTrue, IfOk, OnOk, length, slice_get, Some};
 ghost use Rattle.value_store.specs.declared.value.Value.{Value};
 ghost use Rattle.value_store.specs.declared.value.ValType.{ValType};

@@ -1,6 +1,7 @@
+// Expressions read from lines, with their answers.
 ghost use Rattle.std.specs.Prelude.{List};
 ghost use Rattle.spec_text.specs.Reading.{Placed};
-ghost use Rattle.node_spec.specs.Written.{AreTokensOf};
+ghost use Rattle.expr_read.specs.Written.{AreTokensOf};
 
 use crate::lines::push_line;
 use crate::values::{SOURCE, VARIABLES, makers, stored_value};

@@ -1,3 +1,4 @@
+// Types of nodes in print.
 ghost use Rattle.std.specs.Prelude.{◌<◌, ◌^◌, length};
 
 use crate::growing::make_kinds;

@@ -1,3 +1,4 @@
+// Cores, lookaheads and LALR(1) tables in print.
 ghost use Rattle.std.specs.Prelude.{◌≡◌, ◌≤◌, ◌<◌, ⊤, IfOk, MatchOption, length};
 ghost use Rattle.cfg_model.specs.Cfg.{IsGrammar};
 ghost use Rattle.cfg_model.specs.Cores.{IsCores};

@@ -1,3 +1,4 @@
+// Large values: chains, deep trees, many sets.
 ghost use Rattle.std.specs.Prelude.{⊤, IfOk, MatchOption};
 ghost use Rattle.cfg_model.specs.Cfg.{IsGrammar};
 

@@ -1,3 +1,4 @@
+// Lines of output, with letters for numbers.
 use crate::written::Written;
 use cfg_model::Sym;
 use ck_base::{Bits, NoMemory};

@@ -1,3 +1,4 @@
+// LL(1) tables and parses in print.
 ghost use Rattle.std.specs.Prelude.{◌≡◌, ◌<◌, IsTrue, All};
 ghost use Rattle.cfg_model.specs.Cfg.{IsGrammar};
 ghost use Rattle.cfg_model.specs.LlTables.{IsLlTable};

@@ -1,3 +1,4 @@
+// Parses of lists of tokens in print.
 ghost use Rattle.std.specs.Prelude.{◌<◌, IsTrue, All};
 ghost use Rattle.cfg_model.specs.LlTables.{IsLlTable};
 ghost use Rattle.ell_tables.specs.Table.{answer_of, grammar_of, numbers_of};

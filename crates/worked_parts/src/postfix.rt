@@ -1,3 +1,4 @@
+// Expressions written in postfix notation.
 use bumpalo::Bump;
 use bumpalo::collections::into_bump_slice;
 use expr_lang::{Expr, Function, Op};

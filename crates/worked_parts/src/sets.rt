@@ -1,3 +1,4 @@
+// Sets of a grammar in print.
 ghost use Rattle.cfg_model.specs.Cfg.{IsGrammar};
 ghost use Rattle.cfg_model.specs.Sets.{AllProductive};
 

@@ -1,3 +1,4 @@
+// Trees and their orders in print.
 ghost use Rattle.std.specs.Prelude.{◌<◌, ◌^◌, length};
 
 use crate::growing::{Kinds, add_node, is_under, make_kinds};

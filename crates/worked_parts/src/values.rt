@@ -1,5 +1,6 @@
+// Values of expressions in print, with a store and without one.
 ghost use Rattle.std.specs.Prelude.{◌≡◌, [], ◌∷◌, IfOk, IsTrue};
-ghost use Rattle.expr_lang.specs.Typing.{IsPlain};
+ghost use Rattle.value_store.specs.PlainTypes.{IsPlain};
 ghost use Rattle.worked_parts.specs.Making.{AllMake};
 
 use crate::lines::push_line;

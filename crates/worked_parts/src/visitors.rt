@@ -1,3 +1,4 @@
+// Visitors that count and trace.
 ghost use Rattle.std.specs.Prelude.{⊤};
 
 use ck_base::NoMemory;

@@ -1,3 +1,4 @@
+// Grammars written as text.
 ghost use Rattle.std.specs.Prelude.{◌≡◌, ◌<◌, ◌≤◌, ◌+◌, ⊤, IsTrue, All, IfOk, MatchOption};
 ghost use Rattle.cfg_model.specs.Cfg.{IsGrammar, IsSymbol};
 

@@ -26,6 +26,7 @@ pub record IsAmong (null : BitSet) (right : List Sym) (m : ℕ) : Type 0 where
   pub vanish : AllPass false (Has null) before
   pub vanish_after : AllPass false (Has null) after
 
+-- an edge from a left side to a nonterminal whose neighbours in the right side can all vanish
 abbrev pub IsMiddle : BitSet → ℕ → List Sym → Edge → Type 0
 IsMiddle null left right e = (e.from ≡ left) × IsAmong null right e.to
 

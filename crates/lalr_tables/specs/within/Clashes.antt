@@ -22,6 +22,7 @@ abbrev pub IsLesser : Option Clash → Clash → Option Clash → Type 0
 IsLesser None other new = new ≡ Some other
 IsLesser (Some b) other new = (c : Clash) × (new ≡ Some c) × ((c ≡ b) ⊎ (c ≡ other)) × Precedes c b × Precedes c other
 
+-- the lesser of two conflicts that may be missing
 abbrev pub IsLesserOf : Option Clash → Option Clash → Option Clash → Type 0
 IsLesserOf best None new = new ≡ best
 IsLesserOf best (Some other) new = IsLesser best other new

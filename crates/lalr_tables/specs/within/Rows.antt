@@ -15,6 +15,7 @@ use Rattle.lalr_tables.specs.within.Clashes.{IsLesser, IsLeastClash}
 abbrev pub OverTerminal : List (Sym × ℕ) → ℕ → ℕ → Type 0
 OverTerminal moves t m = Contains moves (T t, m)
 
+-- a move over this nonterminal
 abbrev pub OverNonterminal : List (Sym × ℕ) → ℕ → ℕ → Type 0
 OverNonterminal moves n m = Contains moves (N n, m)
 
@@ -49,6 +50,7 @@ abbrev pub ClashesOn : (ℕ → ℕ → Type 0) → (ℕ → ℕ → Type 0) →
 ClashesOn M R t r None = R t r × ((m : ℕ) × M t m)
 ClashesOn M R t r (Some s) = R t r × R t s × (r ≢ s)
 
+-- a conflict on this terminal between these rules
 abbrev pub AreClashes : (ℕ → ℕ → Type 0) → (ℕ → ℕ → Type 0) → Clash → Type 0
 AreClashes M R c = ClashesOn M R c.terminal c.rule c.other
 
@@ -94,6 +96,7 @@ pub data GotoIs (S : ℕ → ℕ → Type 0) (n cell : ℕ) : Type 0 where
   nowhere : ((m : ℕ) → S n m → ⊥) → GotoIs S n cell
   leads : S n cell → GotoIs S n cell
 
+-- each nonterminal's cell is its goto
 abbrev pub AreGotos : ℕ → (ℕ → ℕ → Type 0) → (ℕ → ℕ) → Type 0
 AreGotos width S cell = (n : ℕ) → n < width → GotoIs S n (cell n)
 

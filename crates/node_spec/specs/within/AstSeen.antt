@@ -8,11 +8,13 @@ use Rattle.node_spec.specs.declared.ast_line.ItemText.{ItemText}
 use Rattle.node_spec.specs.declared.ast_line.Saying.{Saying}
 use Rattle.node_spec.specs.declared.ast_line.Saying.TheVariants as says
 use Rattle.node_spec.specs.declared.rows.TypeRow.{TypeRow}
-use Rattle.node_spec.specs.within.Writing.{spoken_of}
+use Rattle.expr_read.specs.Writing.{spoken_of}
 
+-- the pure form of an item
 abbrev pub item_seen : ItemText → SaidItem
 item_seen item = record { name = item.name.now; of = item.of.now }
 
+-- the pure form of what a line says
 abbrev pub saying_seen : Saying → AstSaying
 saying_seen (says.Family name) = family name.now
 saying_seen (says.Target name) = target name.now
@@ -20,6 +22,7 @@ saying_seen (says.NodeType name base items) = a_type name.now base.now (map item
 saying_seen (says.Node nonterminal name) = node nonterminal.now name.now
 saying_seen (says.Build label e) = build label.now (spoken_of e)
 
+-- the pure form of a line
 abbrev pub declared_by : AstLine → Declared AstSaying
 declared_by line = record { number = line.number; said = saying_seen line.says }
 

@@ -9,10 +9,10 @@ use Rattle.spec_text.specs.Declares.{Declared}
 use Rattle.node_spec.specs.AstShapes.{AstSaying, SaidItem, family, target, a_type, node, build}
 use Rattle.node_spec.specs.AstFaults.{DeclaresName, IsRuleOf, IsTwice, reserved_words, row_at}
 use Rattle.node_spec.specs.AstTables.{Row}
-use Rattle.node_spec.specs.Resolving.{dollars_in}
-use Rattle.node_spec.specs.Spoken.{Spoken}
-use Rattle.node_spec.specs.declared.again.Sort.{Sort}
-use Rattle.node_spec.specs.declared.again.Sort.TheVariants as sort
+use Rattle.expr_read.specs.Resolving.{dollars_in}
+use Rattle.expr_read.specs.Spoken.{Spoken}
+use Rattle.node_spec.specs.declared.declared_again.Sort.{Sort}
+use Rattle.node_spec.specs.declared.declared_again.Sort.TheVariants as sort
 use Rattle.node_spec.specs.declared.rows.FirstRows.{FirstRows}
 
 -- of the names in `names` each has its first row in `rows`
@@ -20,6 +20,7 @@ abbrev pub row_numbered : List ℕ → Option ℕ → Option ℕ
 row_numbered rows None = None
 row_numbered rows (Some n) = slice_get rows n
 
+-- the row in which a name stands first
 abbrev pub first_row : List (List ℕ) → List ℕ → List ℕ → Option ℕ
 first_row names rows name = row_numbered rows (number_of names name)
 
@@ -51,6 +52,7 @@ name_said sort.Label (a_type name base items) = None
 name_said sort.Label (node nonterminal name) = None
 name_said sort.Label (build label e) = Some label
 
+-- a name before others, where there is one
 abbrev pub name_before : Option (List ℕ) → List (List ℕ) → List (List ℕ)
 name_before None more = more
 name_before (Some name) more = name ∷ more

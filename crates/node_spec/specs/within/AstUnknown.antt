@@ -10,9 +10,10 @@ use Rattle.node_spec.specs.AstShapes.{AstSaying, SaidItem, family, target, a_typ
 use Rattle.node_spec.specs.AstTables.{family_number, node_family}
 use Rattle.node_spec.specs.AstFaults.{item_words, names_in, node_then, nodes_in}
 use Rattle.node_spec.specs.AstBuilds.{nonterminal_places, only_nonterminal}
-use Rattle.node_spec.specs.Resolving.{has_unknown}
+use Rattle.expr_read.specs.Resolving.{has_unknown}
 use Rattle.node_spec.specs.declared.node_lines.NodeLines.{NodeLines}
 
+-- whether a symbol is a nonterminal
 abbrev pub names_nonterminal : Sym → Bool
 names_nonterminal (T t) = false
 names_nonterminal (N n) = true
@@ -37,6 +38,7 @@ type_then (a_type name base items) more = name ∷ more
 type_then (node nonterminal name) more = more
 type_then (build label e) more = more
 
+-- the names of types, in the order of their lines
 abbrev pub types_in : List (Declared AstSaying) → List (List ℕ)
 types_in [] = []
 types_in (d ∷ ds) = type_then d.said (types_in ds)
@@ -113,12 +115,15 @@ IsUnknownBuild labels types (build label e) = (Contains labels label → ⊥) �
 abbrev pub BaseFault : List (Declared AstSaying) → ℕ → AstSaying → Type 0
 BaseFault ds i said = HasNoBase (names_in (take i ds)) said
 
+-- a line with an item whose type is neither plain nor a family declared so far
 abbrev pub ItemFault : List (List ℕ) → ℕ → AstSaying → Type 0
 ItemFault families i said = HasNoItemType families said
 
+-- a NODE line that names what isn't there
 abbrev pub NodeFault : List (List ℕ) → List (List ℕ) → ℕ → AstSaying → Type 0
 NodeFault nonterminals families i said = IsUnknownNode nonterminals families said
 
+-- a BUILD line that names what isn't there
 abbrev pub BuildFault : List (List ℕ) → List (List ℕ) → ℕ → AstSaying → Type 0
 BuildFault labels types i said = IsUnknownBuild labels types said
 
@@ -152,5 +157,6 @@ pub record LacksBuild (labels : List (List ℕ)) (rules : List Rule) (lines : Li
   pub no_line : Contains lines label → ⊥
   pub builds_nothing : HasNoOnly rules number
 
+-- one rule has neither a BUILD line nor a default
 abbrev pub OneLacksBuild : List (List ℕ) → List Rule → List (List ℕ) → Type 0
 OneLacksBuild labels rules lines = (label : List ℕ) × LacksBuild labels rules lines label

@@ -21,6 +21,7 @@ families_said (a_type name base items) = 0
 families_said (node nonterminal name) = 0
 families_said (build label e) = 0
 
+-- how many types a line declares
 abbrev pub types_said : AstSaying → ℕ
 types_said (family name) = 0
 types_said (target name) = 0
@@ -116,5 +117,6 @@ FitsOver families types row (Some b) =
     (b < length types) × ((type_at types b).family ≡ family_number families row.family)
     × ((own : List Item) × (map (item_of families) row.items ≡ (type_at types b).items ++ own))
 
+-- the table's types hold what a row says
 abbrev pub FitsRow : List (List ℕ) → List NodeType → Row → Type 0
 FitsRow families types row = FitsOver families types row row.base

@@ -2,13 +2,14 @@
 use Rattle.std.specs.Prelude.{◌≡◌, ℕ, List, [], ◌∷◌, codes}
 use Rattle.spec_text.specs.Lexemes.{Lexeme, word, sign}
 use Rattle.node_spec.specs.AstShapes.{SaidItem, ItemsPart}
-use Rattle.node_spec.specs.Notation.{IsSpoken}
-use Rattle.node_spec.specs.Spoken.{Spoken}
+use Rattle.expr_read.specs.Notation.{IsSpoken}
+use Rattle.expr_read.specs.Spoken.{Spoken}
 
 -- a word, a name, and no more
 abbrev pub IsNamed : List ℕ → List Lexeme → List ℕ → Type 0
 IsNamed head tokens name = tokens ≡ word head ∷ word name ∷ []
 
+-- a NODE line of a nonterminal and a family
 abbrev pub IsNodeLine : List Lexeme → List ℕ → List ℕ → Type 0
 IsNodeLine tokens nonterminal name =
     tokens ≡ word (codes "NODE") ∷ word nonterminal ∷ sign (codes ":") ∷ word name ∷ []

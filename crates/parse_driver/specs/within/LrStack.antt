@@ -15,6 +15,7 @@ use Rattle.parse_driver.specs.Stream.{terminal_of, terminals_of}
 use Rattle.parse_driver.specs.declared.tokens.TokenRef.{TokenRef}
 use Rattle.parse_driver.specs.declared.step.Step.{Step}
 
+-- the grammar has no LALR(1) conflict
 abbrev pub NoConflict : Cfg → Type 0
 NoConflict g = (t r : ℕ) (other : Option ℕ) → LalrConflict g t r other → ⊥
 

@@ -27,6 +27,7 @@ HasSplit splits i rule (Some context) = (split : Halves) × (split_of splits i �
 abbrev pub HasMoreForward : Re → ℕ → Type 0
 HasMoreForward body n = HasMoreOf (Takes (marked body) 0) (Follow (marked body) 0) (First (marked body) 0) n
 
+-- the backward automaton of a context has more than so many states
 abbrev pub HasMoreBackward : Re → ℕ → Type 0
 HasMoreBackward context n = HasMoreOf (Takes context 0) (FollowBackwards context) (FirstBackwards context) n
 
@@ -35,6 +36,7 @@ abbrev pub IsForward : Re → Automaton → ℕ → Type 0
 IsForward body dfa count =
     IsPart (Takes (marked body) 0) (Follow (marked body) 0) (First (marked body) 0) (position_count body) dfa count
 
+-- this is the backward automaton of a context, of so many states
 abbrev pub IsBackward : Re → Automaton → ℕ → Type 0
 IsBackward context dfa count =
     IsPart (Takes context 0) (FollowBackwards context) (FirstBackwards context) (position_count context) dfa count

@@ -23,6 +23,7 @@ pub record Cutting (split : Halves) (word : List ℕ) (n state : ℕ) : Type 0 w
   pub behind : IsBehind split.backward word n state
   pub none : (k : ℕ) → n < k → AreParts split word k → ⊥
 
+-- the greatest length within a block at which both parts match, or the state at the block's begin
 abbrev pub IsBack : Halves → List ℕ → ℕ → Back → Type 0
 IsBack split word begin (At n) = AreParts split word n × ((k : ℕ) → AreParts split word k → k ≤ n)
 IsBack split word begin (Passed state) = Cutting split word begin state

@@ -6,7 +6,9 @@ use Rattle.value_store.specs.declared.value.Value.{Value}
 use Rattle.ast_types.specs.TypeTable.{TypeTable}
 use Rattle.tree_store.specs.Conforms.{Conforms}
 use Rattle.tree_store.specs.Forest.{Node, node_at, children_at, IsForest, AreRoots, Under}
+use Rattle.expr_lang.specs.PureOf.{pure_trees}
 use Rattle.tree_build.specs.Fitting.{as_field, TreeFits}
+use Rattle.tree_build.specs.Shown.{pure_node, roots_from, all_nodes_from}
 use Rattle.tree_build.specs.declared.laying.Task.{Task}
 use Rattle.tree_build.specs.declared.laying.Task.TheVariants as task
 
@@ -15,6 +17,7 @@ abbrev pub joined : MadeTrees → MadeTrees → MadeTrees
 joined no_trees us = us
 joined (and_trees t ts) us = and_trees t (joined ts us)
 
+-- how many trees a list has
 abbrev pub trees_count : MadeTrees → ℕ
 trees_count no_trees = 0
 trees_count (and_trees t ts) = suc (trees_count ts)
@@ -48,6 +51,7 @@ abbrev pub load_of : List Cell → Task → ℕ
 load_of cells (task.Visit c) = 2 * node_count (tree_at cells c)
 load_of cells (task.Make c) = 1
 
+-- how much is left to do for a list of tasks
 abbrev pub load : List Cell → List Task → ℕ
 load cells [] = 0
 load cells (t ∷ tasks) = load_of cells t + load cells tasks
@@ -57,6 +61,7 @@ abbrev pub nodes_of_task : List Cell → Task → ℕ
 nodes_of_task cells (task.Visit c) = node_count (tree_at cells c)
 nodes_of_task cells (task.Make c) = 1
 
+-- how many nodes a list of tasks will lay
 abbrev pub to_come : List Cell → List Task → ℕ
 to_come cells [] = 0
 to_come cells (t ∷ tasks) = nodes_of_task cells t + to_come cells tasks
@@ -68,12 +73,18 @@ pub record UnderOne (nodes : List Node) (roots : List ℕ) (n : ℕ) : Type 0 wh
   pub is : slice_get roots place ≡ Some root
   pub under : Under nodes root n
 
+-- the nodes and the roots are those of these trees, numbered from 0
+pub record AreNodesOf (trees : MadeTrees) (roots : List ℕ) (nodes : List Node) : Type 0 where
+  pub nodes_are : (s l : List ℕ) → map (pure_node s l) nodes ≡ all_nodes_from 0 (pure_trees s l trees)
+  pub roots_are : (s l : List ℕ) → roots ≡ roots_from 0 (pure_trees s l trees)
+
 -- these roots are done, all nodes are theirs, and the tasks make the whole tree of them
 pub record Laying (cells : List Cell) (table : TypeTable) (whole : MadeTree) (tasks : List Task) (done : List ℕ)
     (nodes : List Node) : Type 0 where
   pub trees : MadeTrees
   pub due : Due cells table whole tasks trees
   pub stand : Stand nodes done trees
+  pub are : AreNodesOf trees done nodes
   pub forest : IsForest nodes
   pub roots : AreRoots nodes done
   pub under : (n : ℕ) → n < length nodes → UnderOne nodes done n

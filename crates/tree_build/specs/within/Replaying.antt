@@ -14,7 +14,7 @@ use Rattle.parse_driver.specs.Stream.{terminal_of}
 use Rattle.parse_driver.specs.declared.step.Step.{Step}
 use Rattle.parse_driver.specs.declared.step.Step.TheVariants as act
 use Rattle.parse_driver.specs.declared.tokens.TokenRef.{TokenRef}
-use Rattle.node_spec.specs.Nodes.{Nodes}
+use Rattle.node_model.specs.Nodes.{Nodes}
 use Rattle.tree_build.specs.Built.{built}
 
 -- trees, and then others
@@ -23,6 +23,7 @@ beside empty h = h
 beside (leaf k f) h = leaf k (beside f h)
 beside (node r children f) h = node r children (beside f h)
 
+-- the left side of a rule, else 0
 abbrev pub left_in : Option Rule → ℕ
 left_in None = 0
 left_in (Some rule) = rule.left
@@ -53,7 +54,7 @@ pub record Replaying (source literals : List ℕ) (g : Cfg) (nodes : Nodes) (tok
     (moves : List (Move TokenRef)) (values : List Value) (shifted : ℕ) : Type 0 where
   pub done : Forest TokenRef
   pub leads : Leads terminal_of g whole moves done
-  pub are : AreOf (λ family. false) cells values (types_of g nodes done)
+  pub are : AreOf (λ node family. false) cells values (types_of g nodes done)
   pub show : map (pure_of source literals cells) values ≡ built nodes tokens 0 done
   pub count : shifted ≡ length (yield done)
 

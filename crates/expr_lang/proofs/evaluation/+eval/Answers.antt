@@ -53,10 +53,10 @@ pub eval-returns-else-bool_of-clause-ok : goal.eval-returns-else-bool_of-clause-
 eval-returns-else-bool_of-clause-ok t c = rw (c.in-If.is, meaning-If)
     (evaluated_if_not _ c.args.texts.now.source.now c.args.texts.now.literals.now _ _ _ _ _ _ _ _ c.eval-else-bool_of.result (rw (c.in-If.is, meaning-If) at c.requires) c.in_ok-test-in-If.ensures.ok (sym c.bool_of.ensures ∙ c.if-bool_of.false) c.eval-else-bool_of.ensures.ok)
 
-pub eval-eval_all-requires : goal.eval-eval_all-requires
-eval-eval_all-requires t c =
-    let ready = ready_call c.args.texts.now.source.now c.args.texts.now.literals.now c.in-Call.function c.in-Call.args.now (rw (c.in-Call.is, meaning-Call) at c.requires) in
-    ((let d = rw (c.in-Call.is, meaning-Call) at c.decreases in omega (arith, d)), (ready.0, omega (arith, ready.1)))
+pub eval_call-eval_all-requires : goal.eval_call-eval_all-requires
+eval_call-eval_all-requires t c =
+    let ready = ready_call c.args.texts.now.source.now c.args.texts.now.literals.now c.args.function c.args.args.now c.requires in
+    ((let d = c.decreases in omega (arith, d)), (ready.0, omega (arith, ready.1)))
 
 pub eval_all-eval-requires : goal.eval_all-eval-requires
 eval_all-eval-requires t c =
@@ -92,22 +92,22 @@ eval_all-loop-i-preserved t c = record {
       (let some = c.loop-i-test.true in omega (arith, some)) c.loop-i.invariant.within c.requires.1 c.loop-i.invariant.eight c.index-args-i.is c.loop-i.invariant.done c.in_ok-value.ensures.ok;
 }
 
-pub eval-slice_bounds-values-end : goal.eval-slice_bounds-values-end
-eval-slice_bounds-values-end t c =
-    let ready = ready_call c.args.texts.now.source.now c.args.texts.now.literals.now c.in-Call.function c.in-Call.args.now (rw (c.in-Call.is, meaning-Call) at c.requires) in
+pub eval_call-slice_bounds-values-end : goal.eval_call-slice_bounds-values-end
+eval_call-slice_bounds-values-end t c =
+    let ready = ready_call c.args.texts.now.source.now c.args.texts.now.literals.now c.args.function c.args.args.now c.requires in
     omega (arith, ready.1, c.type_inv.values)
 
-pub eval-slice_bounds-apply-end : goal.eval-slice_bounds-apply-end
-eval-slice_bounds-apply-end t c =
-    let ready = ready_call c.args.texts.now.source.now c.args.texts.now.literals.now c.in-Call.function c.in-Call.args.now (rw (c.in-Call.is, meaning-Call) at c.requires) in
-    let long = c.eval_all.array_long in omega (arith, ready.1, long, length-take (length c.in-Call.args.now) c.eval_all.new.into)
+pub eval_call-slice_bounds-apply-end : goal.eval_call-slice_bounds-apply-end
+eval_call-slice_bounds-apply-end t c =
+    let ready = ready_call c.args.texts.now.source.now c.args.texts.now.literals.now c.args.function c.args.args.now c.requires in
+    let long = c.eval_all.array_long in omega (arith, ready.1, long, length-take (length c.args.args.now) c.eval_all.new.into)
 
-pub eval-apply-requires : goal.eval-apply-requires
-eval-apply-requires t c = call_values _ c.args.texts.now.source.now c.args.texts.now.literals.now c.in-Call.function _ _ (rw (c.in-Call.is, meaning-Call) at c.requires) c.in_ok-eval_all-in-Call.ensures.ok
+pub eval_call-apply-requires : goal.eval_call-apply-requires
+eval_call-apply-requires t c = call_values _ c.args.texts.now.source.now c.args.texts.now.literals.now c.args.function _ _ c.requires c.in_ok-eval_all.ensures.ok
 
-pub eval-returns-in_ok-eval_all-in-Call-clause-ok : goal.eval-returns-in_ok-eval_all-in-Call-clause-ok
-eval-returns-in_ok-eval_all-in-Call-clause-ok t c = rw (c.in-Call.is, meaning-Call)
-    (evaluated_call_result _ c.args.texts.now.source.now c.args.texts.now.literals.now _ _ _ _ _ _ _ c.apply.result c.in_ok-eval_all-in-Call.ensures.ok c.apply.ensures.ok)
+pub eval_call-returns-clause-ok : goal.eval_call-returns-clause-ok
+eval_call-returns-clause-ok t c =
+    (evaluated_call_result _ c.args.texts.now.source.now c.args.texts.now.literals.now _ _ _ _ _ _ _ c.apply.result c.in_ok-eval_all.ensures.ok c.apply.ensures.ok)
 
 pub eval_all-returns-in_err-value-clause-room : goal.eval_all-returns-in_err-value-clause-room
 eval_all-returns-in_err-value-clause-room t c = λ enough.
@@ -122,36 +122,48 @@ eval-eval-requires-in-Not t c = ((let d = rw (c.in-Not.is, meaning-Not) at c.dec
 pub eval-returns-in_ok-inner-in-Not-clause-ok : goal.eval-returns-in_ok-inner-in-Not-clause-ok
 eval-returns-in_ok-inner-in-Not-clause-ok t c = rw (c.in-Not.is, meaning-Not, c.negated.ensures) (evaluated_negated _ _ _ _ _ _ _ _ c.in_ok-inner-in-Not.ensures.ok)
 
-pub eval-eval_all-requires-in-Make : goal.eval-eval_all-requires-in-Make
-eval-eval_all-requires-in-Make t c =
-    let ready = ready_make c.args.texts.now.source.now c.args.texts.now.literals.now c.in-Make.ty c.in-Make.args.now (rw (c.in-Make.is, meaning-Make) at c.requires) in
-    ((let d = rw (c.in-Make.is, meaning-Make) at c.decreases in omega (arith, d)), (ready.0, ready.1))
+pub eval_make-eval_all-requires : goal.eval_make-eval_all-requires
+eval_make-eval_all-requires t c =
+    let ready = ready_make c.args.texts.now.source.now c.args.texts.now.literals.now c.args.ty c.args.args.now c.requires in
+    ((let d = c.decreases in omega (arith, d)), (ready.0, ready.1))
 
-pub eval-make-requires : goal.eval-make-requires
-eval-make-requires t c = make_values _ c.args.texts.now.source.now c.args.texts.now.literals.now c.in-Make.ty _ _ (rw (c.in-Make.is, meaning-Make) at c.requires) c.in_ok-eval_all-in-Make.ensures.ok
+pub eval_make-make-requires : goal.eval_make-make-requires
+eval_make-make-requires t c = make_values _ c.args.texts.now.source.now c.args.texts.now.literals.now c.args.ty _ _ c.requires c.in_ok-eval_all.ensures.ok
 
-pub eval-returns-in_ok-eval_all-in-Make-clause-ok : goal.eval-returns-in_ok-eval_all-in-Make-clause-ok
-eval-returns-in_ok-eval_all-in-Make-clause-ok t c = rw (c.in-Make.is, meaning-Make)
-    (evaluated_make_result _ c.args.texts.now.source.now c.args.texts.now.literals.now _ _ _ _ _ _ _ c.make.result c.in_ok-eval_all-in-Make.ensures.ok c.make.ensures.ok)
+pub eval_make-returns-clause-ok : goal.eval_make-returns-clause-ok
+eval_make-returns-clause-ok t c =
+    (evaluated_make_result _ c.args.texts.now.source.now c.args.texts.now.literals.now _ _ _ _ _ _ _ c.make.result c.in_ok-eval_all.ensures.ok c.make.ensures.ok)
 
-pub eval-slice_bounds-values-end-in-Make : goal.eval-slice_bounds-values-end-in-Make
-eval-slice_bounds-values-end-in-Make t c =
-    let ready = ready_make c.args.texts.now.source.now c.args.texts.now.literals.now c.in-Make.ty c.in-Make.args.now (rw (c.in-Make.is, meaning-Make) at c.requires) in
+pub eval_make-slice_bounds-values-end : goal.eval_make-slice_bounds-values-end
+eval_make-slice_bounds-values-end t c =
+    let ready = ready_make c.args.texts.now.source.now c.args.texts.now.literals.now c.args.ty c.args.args.now c.requires in
     omega (arith, ready.1, c.type_inv.values)
 
-pub eval-slice_bounds-make-end : goal.eval-slice_bounds-make-end
-eval-slice_bounds-make-end t c =
-    let ready = ready_make c.args.texts.now.source.now c.args.texts.now.literals.now c.in-Make.ty c.in-Make.args.now (rw (c.in-Make.is, meaning-Make) at c.requires) in
-    let long = c.eval_all-in-Make.array_long in omega (arith, ready.1, long, length-take (length c.in-Make.args.now) c.eval_all-in-Make.new.into)
+pub eval_make-slice_bounds-make-end : goal.eval_make-slice_bounds-make-end
+eval_make-slice_bounds-make-end t c =
+    let ready = ready_make c.args.texts.now.source.now c.args.texts.now.literals.now c.args.ty c.args.args.now c.requires in
+    let long = c.eval_all.array_long in omega (arith, ready.1, long, length-take (length c.args.args.now) c.eval_all.new.into)
 
-pub eval-returns-in_ok-eval_all-in-Make-clause-spare : goal.eval-returns-in_ok-eval_all-in-Make-clause-spare
-eval-returns-in_ok-eval_all-in-Make-clause-spare t c = rw (c.in-Make.is, meaning-Make)
-    (let ready = ready_make c.args.texts.now.source.now c.args.texts.now.literals.now c.in-Make.ty c.in-Make.args.now (rw (c.in-Make.is, meaning-Make) at c.requires) in
-    let long = c.eval_all-in-Make.array_long in let taken = length-take (length c.in-Make.args.now) c.eval_all-in-Make.new.into in
-    let count = count-exs c.args.texts.now.source.now c.args.texts.now.literals.now c.in-Make.args.now in let before = c.in_ok-eval_all-in-Make.ensures.spare in on_ok c.make.result c.make.ensures.spare (λ spare. omega (arith, ready.1, long, taken, count, before, spare)))
+pub eval_make-returns-clause-spare : goal.eval_make-returns-clause-spare
+eval_make-returns-clause-spare t c =
+    (let ready = ready_make c.args.texts.now.source.now c.args.texts.now.literals.now c.args.ty c.args.args.now c.requires in
+    let long = c.eval_all.array_long in let taken = length-take (length c.args.args.now) c.eval_all.new.into in
+    let count = count-exs c.args.texts.now.source.now c.args.texts.now.literals.now c.args.args.now in let before = c.in_ok-eval_all.ensures.spare in on_ok c.make.result c.make.ensures.spare (λ spare. omega (arith, ready.1, long, taken, count, before, spare)))
 
-pub eval-returns-in_ok-eval_all-in-Make-clause-room : goal.eval-returns-in_ok-eval_all-in-Make-clause-room
-eval-returns-in_ok-eval_all-in-Make-clause-room t c = rw (c.in-Make.is, meaning-Make)
-    (let ready = ready_make c.args.texts.now.source.now c.args.texts.now.literals.now c.in-Make.ty c.in-Make.args.now (rw (c.in-Make.is, meaning-Make) at c.requires) in
-    let long = c.eval_all-in-Make.array_long in let taken = length-take (length c.in-Make.args.now) c.eval_all-in-Make.new.into in
-    let count = count-exs c.args.texts.now.source.now c.args.texts.now.literals.now c.in-Make.args.now in let before = c.in_ok-eval_all-in-Make.ensures.spare in λ enough. c.make.ensures.room (omega (arith, ready.1, long, taken, count, before, enough)))
+pub eval_make-returns-clause-room : goal.eval_make-returns-clause-room
+eval_make-returns-clause-room t c =
+    (let ready = ready_make c.args.texts.now.source.now c.args.texts.now.literals.now c.args.ty c.args.args.now c.requires in
+    let long = c.eval_all.array_long in let taken = length-take (length c.args.args.now) c.eval_all.new.into in
+    let count = count-exs c.args.texts.now.source.now c.args.texts.now.literals.now c.args.args.now in let before = c.in_ok-eval_all.ensures.spare in λ enough. c.make.ensures.room (omega (arith, ready.1, long, taken, count, before, enough)))
+
+pub eval-eval_call-requires : goal.eval-eval_call-requires
+eval-eval_call-requires t c = ((let d = rw (c.in-Call.is, meaning-Call) at c.decreases in omega (arith, d)), rw (c.in-Call.is, meaning-Call) at c.requires)
+
+pub eval-eval_make-requires : goal.eval-eval_make-requires
+eval-eval_make-requires t c = ((let d = rw (c.in-Make.is, meaning-Make) at c.decreases in omega (arith, d)), rw (c.in-Make.is, meaning-Make) at c.requires)
+
+pub eval-returns-in-Call : goal.eval-returns-in-Call
+eval-returns-in-Call t c = rw (c.in-Call.is, meaning-Call) c.eval_call.ensures
+
+pub eval-returns-in-Make : goal.eval-returns-in-Make
+eval-returns-in-Make t c = rw (c.in-Make.is, meaning-Make) c.eval_make.ensures

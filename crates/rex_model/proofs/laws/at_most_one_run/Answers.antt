@@ -1,7 +1,6 @@
 -- That the tokens of a text are determined is what `one_run` shows.
-use Rattle.rex_model.specs.RuleMeaning.{rules_of}
-use Rattle.rex_model.proofs.laws.at_most_one_run.Goals as goal
 use Rattle.rex_model.proofs.OneRun.{one_run}
+use Rattle.rex_model.proofs.laws.at_most_one_run.Goals as goal
 
 pub returns : goal.returns
-returns c = one_run (rules_of c.args.rules.now).list c.args.text.now c.args.state c.args.at
+returns c = one_run

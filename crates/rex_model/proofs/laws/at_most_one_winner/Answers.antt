@@ -1,7 +1,6 @@
 -- That there is at most one winner is what `one_winner` shows.
-use Rattle.rex_model.specs.RuleMeaning.{rules_of}
-use Rattle.rex_model.proofs.laws.at_most_one_winner.Goals as goal
 use Rattle.rex_model.proofs.OneWinner.{one_winner}
+use Rattle.rex_model.proofs.laws.at_most_one_winner.Goals as goal
 
 pub returns : goal.returns
-returns c = one_winner (rules_of c.args.rules.now).list c.args.state c.args.rest.now
+returns c = one_winner

@@ -1,10 +1,13 @@
-use Rattle.std.proofs.Common.{◌≡◌, ◌+◌, ◌↔◌, true, arith, IsSome}
+use Rattle.std.proofs.Common.{◌≡◌, ◌+◌, ◌↔◌, true, arith, IsSome, inr}
 use Rattle.rex_model.specs.Runs.{accepted}
 use Rattle.rex_model.specs.TableMeaning.{automaton_of}
-use Rattle.scan_driver.proofs.Flags.{flags_skipped, flags_more}
+use Rattle.scan_driver.proofs.Flags.{flags_skipped, flags_more, flags_ended, flags_none}
 use Rattle.scan_driver.proofs.RunsAlong.{IsAlong, along_more}
 use Rattle.scan_driver.proofs.cutting.flags_of.Goals as goal
 use Rattle.scan_driver.proofs.cutting.flags_of.Goals.{then-i-begin, else-i-begin}
+
+pub loop-i-init : goal.loop-i-init
+loop-i-init c = flags_none (automaton_of c.args.dfa.now) c.args.word.now c.args.begin (inr c.requires.begins)
 
 pub loop-i-preserved : goal.loop-i-preserved
 loop-i-preserved c =
@@ -17,3 +20,6 @@ loop-i-preserved c =
       | else-i-begin w ↦
           rw w.flags-is (flags_skipped (automaton_of c.args.dfa.now) c.args.word.now c.args.begin c.loop-i.i c.loop-i.state c.after-state.result c.loop-i.flags (omega arith) c.loop-i.invariant along)
     ]
+
+pub returns-then-state : goal.returns-then-state
+returns-then-state c = flags_ended (automaton_of c.args.dfa.now) c.args.word.now c.args.begin c.loop-i.i c.args.end c.loop-i.state c.loop-i.flags c.loop-i.invariant c.if-state.true

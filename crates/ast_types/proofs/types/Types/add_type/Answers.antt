@@ -16,5 +16,5 @@ invariant_of-row-clause-fields_counted c =
 
 pub invariant_of-self-2 : goal.invariant_of-self-2
 invariant_of-self-2 c =
-    type_added c.self.inside.families.items c.self.inside.types.items c.push.new.self.items _ _ _ c.args.own.items c.self.invariant
+    type_added c.self.inside.families.items c.self.inside.types.items c.push.new.self.items _ _ _ c.args.own.items c.self.invariant c.requires.few
     (ap (λ k. k.types) c.self.view_is) (ap (λ k. k.families) c.self.view_is) c.requires.family c.requires.base c.in_ok-items.ensures c.in_ok-push.ensures.items

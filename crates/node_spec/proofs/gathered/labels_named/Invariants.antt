@@ -1,9 +1,0 @@
--- The names of the lines so far.
-use Rattle.std.proofs.Common.{map}
-use Rattle.node_spec.specs.AstFaults.{labels_in}
-use Rattle.node_spec.specs.within.AstSeen.{declared_by}
-use Rattle.node_spec.proofs.AstGathered.{MetSoFar}
-use Rattle.node_spec.proofs.gathered.labels_named.Given as goal
-
-abbrev pub invariant-loop-line : goal.invariant-loop-line
-invariant-loop-line l = MetSoFar labels_in (map declared_by l.list) l.line-index l.names

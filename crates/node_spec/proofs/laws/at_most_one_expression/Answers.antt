@@ -1,6 +1,0 @@
--- Since what is read from left to right is read in one way.
-use Rattle.node_spec.proofs.OneSpoken.{one_spoken}
-use Rattle.node_spec.proofs.laws.at_most_one_expression.Goals as goal
-
-pub returns : goal.returns
-returns c = one_spoken

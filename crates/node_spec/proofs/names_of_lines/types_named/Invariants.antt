@@ -1,0 +1,9 @@
+-- The names of the lines so far.
+use Rattle.std.proofs.Common.{map}
+use Rattle.node_spec.specs.within.AstUnknown.{types_in}
+use Rattle.node_spec.specs.within.AstSeen.{declared_by}
+use Rattle.node_spec.proofs.AstGathered.{MetSoFar}
+use Rattle.node_spec.proofs.names_of_lines.types_named.Given as goal
+
+abbrev pub invariant-loop-line : goal.invariant-loop-line
+invariant-loop-line l = MetSoFar types_in (map declared_by l.list) l.line-index l.names

@@ -1,5 +1,0 @@
-use Rattle.node_spec.proofs.ResolvedParts.{ListSoFar}
-use Rattle.node_spec.proofs.resolving.+resolved.Given as goal
-
-abbrev pub invariant-resolved_list-loop-part : goal.invariant-resolved_list-loop-part
-invariant-resolved_list-loop-part l = ListSoFar l.words l.initial.literals l.literals l.parts.items l.list l.part-index
