@@ -1,0 +1,12 @@
+pub mod Accepted
+pub mod Applies
+pub mod Closed
+pub mod Costing
+pub mod Cover
+pub mod Emitting
+pub mod Fitting
+pub mod Labels
+pub mod Matching
+pub mod RuleMeaning
+pub mod Rules
+pub mod within
