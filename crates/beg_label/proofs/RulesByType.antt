@@ -2,19 +2,18 @@
 use Rattle.std.proofs.Common.{◌≡◌, ℕ, ◌+◌, ◌<◌, ◌⊎◌, List, [], ◌∷◌, ◌++◌, length, get_or, inl, inr, arith, refl, subst, sym, Option, Some, None, zero, suc, ap, ◌∙◌}
 use Rattle.std.specs.Prelude.{slice_get, All, Vec}
 use Rattle.std.proofs.lemmas.Option.{slice_get-get_or}
-use Rattle.std.proofs.lemmas.Bool.{cases_eq, cases_lt}
+use Rattle.std.proofs.lemmas.Bool.{cases_eq}
 use Rattle.std.specs.Global.{Global}
 use Rattle.value_store.proofs.CellsStay.{slice_get-end}
 use Rattle.value_store.proofs.NodeMade.{slice_get-front}
 use Rattle.value_store.specs.declared.text.Texts.{Texts}
-use Rattle.ast_types.specs.TypeTable.{TypeTable, NodeType}
+use Rattle.ast_types.specs.TypeTable.{TypeTable}
 use Rattle.tree_store.specs.Forest.{Node, node_at}
 use Rattle.beg_model.specs.Applies.{applies}
 use Rattle.beg_model.specs.Fitting.{Target, Fits, at_leaf, at_tree, child, MayFit}
 use Rattle.beg_model.specs.declared.matched.Subgoal.{Subgoal}
 use Rattle.beg_model.specs.Rules.{Pattern}
 use Rattle.beg_model.specs.declared.rules.CoverRules.{CoverRules}
-use Rattle.beg_model.specs.RuleMeaning.{rules_in}
 use Rattle.beg_label.specs.within.Offers.{IsIn}
 use Rattle.beg_label.specs.within.Listed.{MayApply, ListsRules, RuleListed, RulesListed, ListIs}
 

@@ -4,7 +4,6 @@ use Rattle.value_store.specs.declared.text.Texts.{Texts}
 use Rattle.ast_types.specs.TypeTable.{IsSound, TypeTable}
 use Rattle.tree_store.specs.Forest.{Node, IsForest}
 use Rattle.beg_model.specs.Fitting.{Subgoal}
-use Rattle.beg_model.specs.Cover.{Least, Reaches}
 use Rattle.beg_model.specs.Labels.{Costs, IsConsistent, IsLeastAndReached}
 use Rattle.beg_model.specs.Applies.{applies}
 use Rattle.beg_model.specs.Accepted.{IsAccepted}

@@ -1,16 +1,15 @@
 -- What fits a node, what a pair of labels has to be, and what may be emitted, tried where the nearest wrong reading differs.
-use Rattle.std.proofs.Common.{◌≡◌, ℕ, zero, suc, true, List, [], ◌∷◌, map, Option, Some, None, refl, subst, arith, codes}
+use Rattle.std.proofs.Common.{◌≡◌, ℕ, true, List, [], ◌∷◌, map, Option, Some, None, refl, subst, arith, codes}
 use Rattle.value_store.specs.declared.value.ValType.{ValType}
 use Rattle.value_store.specs.declared.value.ValType.TheVariants as ty
-use Rattle.ast_types.specs.TypeTable.{NodeType, TypeTable, IsA, itself, extends}
+use Rattle.ast_types.specs.TypeTable.{NodeType, itself, extends}
 use Rattle.expr_lang.specs.PureValues.{PureValue}
 use Rattle.tree_store.specs.Forest.{Node}
-use Rattle.beg_model.specs.Cover.{Cover, Covers}
 use Rattle.beg_model.specs.Emitting.{MayEmit, operand_may}
-use Rattle.beg_model.specs.Fitting.{Target, Part, child, parts_by, field_value, Subgoal, Fits, FitAll, at_leaf, at_tree, no_part, one_more}
+use Rattle.beg_model.specs.Fitting.{Target, child, parts_by, field_value, Subgoal, Fits, at_leaf, at_tree, no_part, one_more}
 use Rattle.beg_model.specs.Labels.{Costs, IsRightAt, Sums}
 use Rattle.beg_model.specs.Labels as labels
-use Rattle.beg_model.specs.Rules.{Pattern, leaf, tree, no_pattern, and_pattern, operand, Rule}
+use Rattle.beg_model.specs.Rules.{leaf, tree, no_pattern, and_pattern, operand, Rule}
 use Rattle.beg_model.specs.declared.rules.Holding.{Holding}
 use Rattle.beg_model.proofs.ChosenWrittenLast.{Row, rule_of_c}
 

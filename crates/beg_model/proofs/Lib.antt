@@ -20,6 +20,7 @@ pub mod Operands
 pub mod Orderly
 pub mod PatternMatching
 pub mod PatternsInRow
+pub mod RegisterExamples
 pub mod Search
 pub mod ShiftedLabels
 pub mod SizeBound

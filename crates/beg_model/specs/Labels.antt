@@ -1,5 +1,5 @@
 -- Labels: a cost and a rule for each node and nonterminal that has a cover.
-use Rattle.std.specs.Prelude.{◌<◌, ◌≡◌, ℕ, ◌+◌, ◌*◌, ◌≤◌, ◌⊎◌, List, [], ◌∷◌, length, Option, Some, None, MatchOption, nat_lt, if◌then◌else◌, slice_get}
+use Rattle.std.specs.Prelude.{◌≡◌, ℕ, ◌+◌, ◌*◌, ◌≤◌, ◌⊎◌, List, [], ◌∷◌, length, Option, Some, None, MatchOption, nat_lt, if◌then◌else◌, slice_get}
 use Rattle.value_store.specs.declared.text.Texts.{Texts}
 use Rattle.ast_types.specs.TypeTable.{TypeTable}
 use Rattle.tree_store.specs.Forest.{Node}

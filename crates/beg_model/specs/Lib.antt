@@ -5,8 +5,10 @@ pub mod Costing
 pub mod Cover
 pub mod Emitting
 pub mod Fitting
+pub mod Items
 pub mod Labels
 pub mod Matching
+pub mod Registers
 pub mod RuleMeaning
 pub mod Rules
 pub mod within

@@ -9,6 +9,7 @@
 //! | matching a rule at a node | `src/matched.rt`, `src/matching.rt`; `specs/Matching.antt` |
 //! | covers, least costs, chosen rules, the list of instances | `specs/Cover.antt` |
 //! | rules and trees that a labeller is handed | `specs/Accepted.antt` |
+//! | what instances hold, where values are used, needs, the register rule | `specs/Items.antt`, `specs/Registers.antt` |
 //! | labels, and what a labeller gives | `src/labels.rt`, `src/labeller.rt`; `specs/Labels.antt` |
 //! | an instance; why there is no code | `src/instance.rt`, `src/error.rt` |
 //! | laws: the chosen cover, and bounds of its cost and its size | `src/laws.rt`; `proofs/AcceptedRules.antt` |

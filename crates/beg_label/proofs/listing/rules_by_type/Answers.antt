@@ -1,5 +1,4 @@
 -- One type more has its list.
-use Rattle.std.proofs.Common.{◌≡◌, length, arith}
 use Rattle.beg_label.proofs.RulesByType.{one_more_list}
 use Rattle.beg_label.specs.within.Listed.{ListsRules}
 use Rattle.std.proofs.Common.{subst}
