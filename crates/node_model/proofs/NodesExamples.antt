@@ -1,5 +1,5 @@
 -- What is declared as a value, and what fits, tried where the nearest wrong reading differs.
-use Rattle.std.proofs.Common.{◌≡◌, ℕ, zero, suc, ◌<◌, true, false, List, [], ◌∷◌, map, None, refl, sym, ap, ◌∙◌, arith, codes}
+use Rattle.std.proofs.Common.{◌≡◌, ℕ, zero, suc, ◌<◌, true, false, List, [], ◌∷◌, map, None, Some, refl, sym, ap, ◌∙◌, arith, codes}
 use Rattle.std.specs.Borrow.{Bor}
 use Rattle.std.specs.Prelude.{get_or}
 use Rattle.std.proofs.lemmas.List.Elements.{All-head}
@@ -14,6 +14,9 @@ use Rattle.expr_lang.specs.declared.expr.Expr.{Expr}
 use Rattle.expr_lang.specs.declared.expr.Maker.{Maker}
 use Rattle.expr_lang.proofs.OneType.{one_type}
 use Rattle.cfg_model.specs.declared.symbol.Sym.TheVariants.{T, N}
+use Rattle.ck_base.specs.Numbered.{number_of}
+use Rattle.node_model.specs.Makers.{names_of_types, types_of_side}
+use Rattle.node_model.specs.TypeNames.{names_of_all, names_of_families}
 use Rattle.node_model.specs.Nodes.{Nodes, nodes_of, IsSourceType, AreSourceMakers, build_context, Builds}
 use Rattle.ast_types.specs.FitTypes.{HasFitItems}
 use Rattle.node_model.specs.declared.nodes.NodeSpec.{NodeSpec}
@@ -54,6 +57,25 @@ no_makers = record {
 
 pub no_target_maker : (m : Maker) → AreSourceMakers (table_with (of_type 1 [])) (m ∷ []) → ⊥
 no_target_maker m are = let it = are.each m (0, omega arith, refl) in target_no_source it.0 it.1
+
+-- a type of the target side before one of the source side
+abbrev two_sides : TypeTable
+two_sides = record {
+  families = record { name = codes "f"; target = false } ∷ record { name = codes "c"; target = true } ∷ [];
+  types = record { name = codes "a"; family = 1; base = None; items = [] } ∷ record { name = codes "b"; family = 0; base = None; items = [] } ∷ [];
+}
+
+-- a type's number counts the types of both sides
+pub types_of_each_side : (types_of_side two_sides false ≡ 1 ∷ []) × (types_of_side two_sides true ≡ 0 ∷ [])
+types_of_each_side = (refl, refl)
+
+pub names_of_a_side : names_of_types two_sides (types_of_side two_sides false) ≡ codes "b" ∷ []
+names_of_a_side = refl
+
+-- names of types stand in the order of their numbers, and families aren't among them
+pub names_stand_in_order : (number_of (names_of_all two_sides) (codes "b") ≡ Some 1)
+    × (number_of (names_of_all two_sides) (codes "f") ≡ None) × (number_of (names_of_families two_sides) (codes "c") ≡ Some 1)
+names_stand_in_order = (refl, refl, refl)
 
 -- a rule's symbols are tokens, and nodes of the families of its nonterminals
 pub token_and_node : (build_context (4 ∷ 5 ∷ []) [] (T 0 ∷ N 1 ∷ [])).vars ≡ ty.Token ∷ ty.Node 5 ∷ []

@@ -1,9 +1,9 @@
 -- What a section AST declares, as a value, and that it fits a grammar.
-use Rattle.std.specs.Prelude.{◌≡◌, ℕ, ◌<◌, List, length, map, All, Contains, Some, false, slice_get, slice_index}
+use Rattle.std.specs.Prelude.{◌≡◌, ℕ, List, length, map, All, Some, false, slice_get, slice_index}
 use Rattle.value_store.specs.declared.value.ValType.{ValType}
 use Rattle.value_store.specs.declared.value.ValType.TheVariants as ty
 use Rattle.ast_types.specs.FitTypes.{AreTypes}
-use Rattle.ast_types.specs.TypeTable.{TypeTable, family_at, type_at}
+use Rattle.ast_types.specs.TypeTable.{TypeTable}
 use Rattle.expr_lang.specs.Expression.{Expression}
 use Rattle.expr_lang.specs.Meaning.{meaning}
 use Rattle.expr_lang.specs.Typing.{Context, HasType}
@@ -11,6 +11,7 @@ use Rattle.expr_lang.specs.declared.expr.Maker.{Maker}
 use Rattle.cfg_model.specs.Cfg.{Cfg, Rule}
 use Rattle.cfg_model.specs.declared.symbol.Sym.{Sym}
 use Rattle.cfg_model.specs.declared.symbol.Sym.TheVariants.{T, N}
+use Rattle.node_model.specs.Makers.{AreMakersOf, IsFamilyOf, IsTypeOf}
 use Rattle.node_model.specs.declared.nodes.NodeSpec.{NodeSpec}
 
 -- the types of nodes, the family of each nonterminal, and what each rule builds
@@ -29,27 +30,20 @@ nodes_of source literals spec = record {
 
 -- whether a family is of the source side
 abbrev pub IsSourceFamily : TypeTable → ℕ → Type 0
-IsSourceFamily table f = (f < length table.families) × ((family_at table.families f).target ≡ false)
+IsSourceFamily table f = IsFamilyOf table false f
 
 -- the type is of a family of the source side
 abbrev pub IsSourceType : TypeTable → ℕ → Type 0
-IsSourceType table t = (t < length table.types) × IsSourceFamily table (type_at table.types t).family
+IsSourceType table t = IsTypeOf table false t
 
 -- what a symbol of a rule is in the rule's expression: a token, or a node of its family
 abbrev pub symbol_type : List ℕ → Sym → ValType
 symbol_type families (T t) = ty.Token
 symbol_type families (N n) = ty.Node (slice_index families n)
 
--- the maker makes nodes of the type
-pub record IsMakerOf (table : TypeTable) (t : ℕ) (m : Maker) : Type 0 where
-  pub type_is : m.ty ≡ t
-  pub family_is : m.family ≡ (type_at table.types t).family
-  pub items_are : m.items.items ≡ map (λ item. item.of) (type_at table.types t).items
-
 -- there is a maker for each type of the source side, and for no other
-pub record AreSourceMakers (table : TypeTable) (makers : List Maker) : Type 0 where
-  pub each : (m : Maker) → Contains makers m → (t : ℕ) × IsSourceType table t × IsMakerOf table t m
-  pub all : (t : ℕ) → IsSourceType table t → (m : Maker) × Contains makers m × IsMakerOf table t m
+abbrev pub AreSourceMakers : TypeTable → List Maker → Type 0
+AreSourceMakers table makers = AreMakersOf table false makers
 
 -- what the expression of a rule with these symbols stands in
 abbrev pub build_context : List ℕ → List Maker → List Sym → Context

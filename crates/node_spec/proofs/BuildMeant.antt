@@ -14,11 +14,12 @@ use Rattle.expr_lang.specs.declared.expr.Expr.{Expr}
 use Rattle.expr_lang.specs.declared.expr.Scope.{Scope}
 use Rattle.expr_lang.proofs.OneType.{one_type}
 use Rattle.expr_read.specs.Spoken.{Spoken}
-use Rattle.node_spec.specs.AstBuilds.{build_words, dollar_names, source_types}
+use Rattle.node_spec.specs.AstBuilds.{build_words, dollar_names}
+use Rattle.node_model.specs.Makers.{names_of_types, types_of_side}
 use Rattle.node_model.specs.Nodes.{build_context, symbol_type}
 use Rattle.expr_read.specs.Resolving.{Vocabulary, Means, MeansNothing}
 use Rattle.node_spec.specs.declared.build.BuildWords.{BuildWords}
-use Rattle.node_spec.specs.within.AstBuildSteps.{AreBuildWords, IsBuilt, names_of_types}
+use Rattle.node_spec.specs.within.AstBuildSteps.{AreBuildWords, IsBuilt}
 use Rattle.node_spec.proofs.BuildNames.{front_dollars, dollars_long}
 use Rattle.node_spec.proofs.SameMakers.{by_other_makers}
 
@@ -40,8 +41,8 @@ words_of words n are less =
     let within : n ≤ are.count = (let long = ap length are.dollars
     ∙ dollars_long are.count in omega (arith, less, long)) in
     vocabulary_of (take n words.dollars.now) (dollar_names n) words.sources.now.names.items
-    (names_of_types words.types.now (source_types words.types.now)) words.sources.now.types.items
-    (source_types words.types.now)
+    (names_of_types words.types.now (types_of_side words.types.now false)) words.sources.now.types.items
+    (types_of_side words.types.now false)
     (ap (take n) are.dollars ∙ front_dollars n are.count within) are.names are.types
 
 pub few_words : (words : BuildWords) (n : ℕ) → AreBuildWords words → n ≤ length words.dollars.now

@@ -1,6 +1,6 @@
 -- What each rule builds by the lines of AST.
-use Rattle.std.specs.Prelude.{ℕ, zero, suc, ◌+◌, List, [], ◌∷◌, ◌++◌, map, length, Option, Some, None, unwrap_or, if◌then◌else◌}
-use Rattle.ast_types.specs.TypeTable.{NodeType, TypeTable, family_at, type_at}
+use Rattle.std.specs.Prelude.{ℕ, zero, suc, ◌+◌, List, [], ◌∷◌, ◌++◌, length, Option, Some, None, unwrap_or, false}
+use Rattle.ast_types.specs.TypeTable.{TypeTable}
 use Rattle.expr_lang.specs.Expression.{Expression, var}
 use Rattle.cfg_model.specs.Cfg.{Rule}
 use Rattle.cfg_model.specs.declared.named.NamedGrammar.{NamedGrammar}
@@ -10,6 +10,7 @@ use Rattle.spec_text.specs.Declares.{Declared}
 use Rattle.expr_read.specs.Spoken.{Spoken}
 use Rattle.node_spec.specs.AstShapes.{AstSaying}
 use Rattle.node_spec.specs.AstTables.{table_by, families_by, build_line}
+use Rattle.node_model.specs.Makers.{names_of_types, types_of_side}
 use Rattle.node_model.specs.Nodes.{Nodes}
 use Rattle.expr_read.specs.Resolving.{Vocabulary, resolved, dollar_name}
 
@@ -18,24 +19,13 @@ abbrev pub dollar_names : ℕ → List (List ℕ)
 dollar_names zero = []
 dollar_names (suc n) = dollar_names n ++ dollar_name (n + 1) ∷ []
 
--- the numbers of the types of the source side, from the one of this number on
-abbrev pub source_types_from : TypeTable → ℕ → List NodeType → List ℕ
-source_types_from table t [] = []
-source_types_from table t (row ∷ rows) =
-    if (family_at table.families row.family).target then source_types_from table (t + 1) rows
-    else (t ∷ source_types_from table (t + 1) rows)
-
--- the types of the source side that makers make, by number
-abbrev pub source_types : TypeTable → List ℕ
-source_types table = source_types_from table 0 table.types
-
 -- what an expression may name in the BUILD line of a rule with so many symbols: these, and the makers of the
 -- source side
 abbrev pub build_words : TypeTable → ℕ → Vocabulary
 build_words table n = record {
   variables = dollar_names n;
-  makers = map (λ t. (type_at table.types t).name) (source_types table);
-  types = source_types table;
+  makers = names_of_types table (types_of_side table false);
+  types = types_of_side table false;
   dotted = [];
 }
 

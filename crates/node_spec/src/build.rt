@@ -11,13 +11,13 @@ ghost use Rattle.node_spec.specs.within.AstBuildSteps.{AreBuildWords, IsBuilt};
 ghost use Rattle.expr_read.specs.Writing.{spoken_of};
 ghost use Rattle.value_store.specs.declared.value.ValType.TheVariants as ty;
 
-use crate::makers::SourceMakers;
 use ast_types::Types;
 use bumpalo::Bump;
 use cfg_model::{GrammarRule, Sym};
 use ck_base::NoMemory;
 use expr_lang::{Expr, Scope};
 use expr_read::{Vocabulary, Written, meant_in};
+use node_model::TypeMakers;
 use std::alloc::Global;
 use value_store::{Literals, Name, ValType};
 
@@ -28,7 +28,7 @@ pub(crate) struct BuildWords<'w> {
     pub families: &'w [u32],
     /// The names `$1`, `$2`, .., as many as the longest right side has symbols, or more.
     pub dollars: &'w [Name],
-    pub sources: &'w SourceMakers,
+    pub sources: &'w TypeMakers,
 }
 
 /// What the expression builds of the symbols of the rule; `None` where that is no node of the

@@ -18,13 +18,13 @@ ghost use Rattle.node_spec.specs.within.AstSeen.{declared_by, saying_seen};
 use crate::ast_line::{AstLine, Saying};
 use crate::build::{BuildWords, built};
 use crate::dollar_names::dollar_names;
-use crate::makers::source_makers;
 use crate::only_nonterminal::only_nonterminal;
 use ast_types::Types;
 use bumpalo::Bump;
 use cfg_model::{GrammarRule, NamedGrammar};
 use ck_base::NoMemory;
 use expr_lang::Expr;
+use node_model::makers_of;
 use std::alloc::Global;
 use value_store::Literals;
 
@@ -65,7 +65,7 @@ pub(crate) fn builds_of<'a>(
     ensures few { length literals.new ≤ length literals.old
         + declared_bytes (map declared_by list.now) }
 {
-    let sources = source_makers(alloc, types)?;
+    let sources = makers_of(alloc, types, false)?;
     let rules = g.grammar.rules.as_slice();
     let longest = longest_right(rules)?;
     let dollars = dollar_names(alloc, longest)?;

@@ -5,7 +5,7 @@
 //! | the names `$1`, `$2`, .. | `src/dollar_names.rt` |
 //! | AST's lines | `src/ast_line.rt`, `src/line_shapes.rt`, `src/line_items.rt`; `specs/AstShapes.antt` |
 //! | types, families, their table | `src/rows.rt`, `src/families.rt`, `src/table.rt`; `specs/AstTables.antt` |
-//! | what rules build | `src/makers.rt`, `src/build.rt`, `src/builds.rt`; `specs/AstBuilds.antt` |
+//! | what rules build | `src/build.rt`, `src/builds.rt`; `specs/AstBuilds.antt` |
 //! | the one nonterminal of a rule without a BUILD line | `src/only_nonterminal.rt` |
 //! | faults of AST | `specs/AstFaults.antt` |
 //! | kind twice | `src/twice.rt`, `src/declared_again.rt`, `src/reserved.rt`, `src/item_twice.rt`, `src/used_twice.rt` |
@@ -33,7 +33,6 @@ mod item_twice;
 mod limits;
 mod line_items;
 mod line_shapes;
-mod makers;
 mod names_of_lines;
 mod node_lines;
 mod only_nonterminal;

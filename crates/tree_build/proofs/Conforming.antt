@@ -15,7 +15,7 @@ use Rattle.expr_lang.specs.PureOf.{pure_field, pure_fields, pure_trees, pure_tre
 use Rattle.expr_lang.specs.PureTypes.{PureIsOf, pure_int, pure_bool, pure_text, pure_map, pure_token, pure_source, pure_node, ItemsFit, none_fit, child_fits, field_fits}
 use Rattle.expr_lang.specs.PureValues.{PureValue, PureValues, int, bool, text, node}
 use Rattle.expr_lang.specs.Typing.{maker_of}
-use Rattle.node_model.specs.Nodes.{IsMakerOf}
+use Rattle.node_model.specs.Makers.{IsMakerOf}
 use Rattle.tree_store.specs.Conforms.{IsOfKind, is_int, is_bool, is_text}
 use Rattle.tree_build.specs.Fitting.{as_field, AreMakers, FieldsFit, no_field_fits, and_field_fits, TreeFits, tree_fits, TreesFit, no_tree_fits, and_tree_fits}
 

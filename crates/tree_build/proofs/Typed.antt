@@ -28,7 +28,8 @@ use Rattle.cfg_model.specs.declared.symbol.Sym.TheVariants.{N}
 use Rattle.cfg_model.specs.Cfg.{Cfg, IsRule}
 use Rattle.cfg_model.specs.Derivation as cfg
 use Rattle.cfg_model.specs.Derivation.{Forest, yield, Derive, Derivation}
-use Rattle.node_model.specs.Nodes.{Nodes, IsSourceType, IsMakerOf, AreSourceMakers, FitGrammar, build_context, symbol_type}
+use Rattle.node_model.specs.Makers.{IsMakerOf}
+use Rattle.node_model.specs.Nodes.{Nodes, IsSourceType, AreSourceMakers, FitGrammar, build_context, symbol_type}
 use Rattle.ast_types.specs.FitTypes.{HasFitItems}
 use Rattle.tree_build.specs.Built.{built, built_value, build_of, expression_in}
 use Rattle.tree_build.specs.Fitting.{AreMakers, TreeFits, HasFewItems}

@@ -7,7 +7,7 @@ use Rattle.value_store.specs.declared.value.Value.TheVariants as value
 use Rattle.ast_types.specs.Items.{child_families, field_types}
 use Rattle.ast_types.specs.TypeTable.{TypeTable, type_at}
 use Rattle.expr_lang.specs.declared.expr.Maker.{Maker}
-use Rattle.node_model.specs.Nodes.{IsMakerOf}
+use Rattle.node_model.specs.Makers.{IsMakerOf}
 use Rattle.tree_store.specs.Conforms.{IsOfKind}
 
 -- a value as a field: what is no int, bool or text counts as 0, as in the pure value of a made node

@@ -1,9 +1,8 @@
-// Makers of source types, for BUILD expressions.
-ghost use Rattle.std.specs.Prelude.{◌≡◌, ◌+◌, ◌<◌, ◌^◌, length, map, IfOk, OnOk};
+// What makes the nodes of the types of one side, for expressions that build nodes.
+ghost use Rattle.std.specs.Prelude.{◌≡◌, ◌+◌, ◌<◌, length, map, IfOk, OnOk};
 ghost use Rattle.ast_types.specs.TypeTable.{type_at};
-ghost use Rattle.node_spec.specs.AstBuilds.{source_types};
-ghost use Rattle.node_model.specs.Nodes.{AreSourceMakers, IsMakerOf};
-ghost use Rattle.node_spec.specs.within.AstBuildSteps.{MadeSoFar, names_of_types};
+ghost use Rattle.node_model.specs.Makers.{AreMakersOf, IsMakerOf, is_side, names_of_types, types_of_side};
+ghost use Rattle.node_model.specs.within.MakersSoFar.{MakersSoFar};
 
 use ast_types::{Item, Types};
 use ck_base::NoMemory;
@@ -11,41 +10,47 @@ use expr_lang::Maker;
 use std::alloc::Global;
 use value_store::{Name, ValType};
 
-/// What makes the nodes of the source side: a name, a number and a maker for each of its types.
+/// What makes the nodes of one side: a name, a number and a maker for each of its types, in the order of
+/// the types.
 #[derive(Drop)]
-pub(crate) struct SourceMakers {
+pub struct TypeMakers {
     pub names: Vec<Name>,
     pub types: Vec<u32>,
     pub makers: Vec<Maker>,
 }
 
-/// What makes the nodes of the types of the source side, in the order of the types.
-pub(crate) fn source_makers(alloc: Global, types: &Types) -> Result<SourceMakers, NoMemory>
-    requires { length types.now.types < 2 ^ 32 }
+/// What makes the nodes of the types of the target side, or of the source side.
+pub fn makers_of(alloc: Global, types: &Types, target: bool) -> Result<TypeMakers, NoMemory>
     ensures names { IfOk result (λ made.
-        made.names.items ≡ names_of_types types.now (source_types types.now)) }
-    ensures types { IfOk result (λ made. made.types.items ≡ source_types types.now) }
-    ensures makers { IfOk result (λ made. AreSourceMakers types.now made.makers.items) }
+        made.names.items ≡ names_of_types types.now (types_of_side types.now target)) }
+    ensures types { IfOk result (λ made. made.types.items ≡ types_of_side types.now target) }
+    ensures makers { IfOk result (λ made. AreMakersOf types.now target made.makers.items) }
 {
-    let mut made = SourceMakers {
+    let mut made = TypeMakers {
         names: Vec::new(alloc),
         types: Vec::new(alloc),
         makers: Vec::new(alloc),
     };
     for t in 0..types.len() {
-        add_type(alloc, types, t, &mut made)?;
+        add_type(alloc, types, target, t, &mut made)?;
     }
     Ok(made)
 }
 
-/// Puts the type behind those that are there, where it is of the source side.
-fn add_type(alloc: Global, types: &Types, t: u32, made: &mut SourceMakers) -> Result<(), NoMemory>
+/// Puts the type behind those that are there, where it is of the side.
+fn add_type(
+    alloc: Global,
+    types: &Types,
+    target: bool,
+    t: u32,
+    made: &mut TypeMakers,
+) -> Result<(), NoMemory>
     requires within { t < length types.now.types }
-    requires so { MadeSoFar types.now t made.old }
-    ensures { OnOk result (MadeSoFar types.now (t + 1) made.new) }
+    requires so { MakersSoFar types.now target t made.old }
+    ensures { OnOk result (MakersSoFar types.now target (t + 1) made.new) }
 {
     let family = types.family_of(t);
-    if types.is_target(family) {
+    if !is_side(types.is_target(family), target) {
         return Ok(());
     }
     let name = Name::from_bytes(alloc, types.type_name(t))?;
@@ -54,6 +59,13 @@ fn add_type(alloc: Global, types: &Types, t: u32, made: &mut SourceMakers) -> Re
     made.types.push(t)?;
     made.makers.push(maker)?;
     Ok(())
+}
+
+/// Whether the one side is the other.
+fn is_side(side: bool, target: bool) -> bool
+    ensures { result ≡ is_side side target }
+{
+    if target { side } else { !side }
 }
 
 /// The maker of the type, which is of the family.
