@@ -1,11 +1,12 @@
 -- An expression at a place among tokens of the specification, and what it means by the names of a scope.
-use Rattle.std.specs.Prelude.{◌≡◌, ℕ, ◌≤◌, true, false, List, length, map, take, drop, All}
+use Rattle.std.specs.Prelude.{◌≡◌, ℕ, ◌-◌, ◌≤◌, true, false, List, length, map, take, drop, All}
 use Rattle.value_store.specs.declared.value.ValType.{ValType}
 use Rattle.ck_base.specs.declared.fault.Kind.{Kind}
 use Rattle.ck_base.specs.declared.fault.Kind.TheVariants.{Syntax, Unknown, Typing}
 use Rattle.spec_text.specs.Lexemes.{Lexeme}
 use Rattle.spec_text.specs.Parts.{NoReading}
 use Rattle.spec_text.specs.Reading.{Placed}
+use Rattle.spec_text.specs.Sizes.{token_bytes}
 use Rattle.spec_text.specs.Spans.{Spells, span_of}
 use Rattle.spec_text.specs.declared.token.SpecToken.{SpecToken}
 use Rattle.expr_lang.specs.Expression.{Expression}
@@ -44,6 +45,15 @@ pub record StandsAt (tokens : List Lexeme) (at next : ℕ) (e : Spoken) : Type 0
   pub within : next ≤ length tokens
   pub is : IsSpoken (drop at tokens) e (drop next tokens)
   pub follows : MayFollow (drop next tokens)
+
+-- the bytes of the tokens from the one place on, up to before the next
+abbrev pub bytes_between : List Placed → ℕ → ℕ → ℕ
+bytes_between said at next = token_bytes (take (next - at) (drop at said))
+
+-- the bytes of the tokens from the place on, up to where the fault tells that they end, if it tells that
+abbrev pub bytes_told : List Placed → ℕ → ExprFault → ℕ
+bytes_told said at (Bad kind next) = bytes_between said at next
+bytes_told said at NoMemory = token_bytes (drop at said)
 
 -- what stands at the place means this expression, of this type
 pub record IsFound (words : Vocabulary) (context : Context) (tokens : List Lexeme) (at : ℕ) (x : Expression) (t : ValType) (next : ℕ) : Type 0 where

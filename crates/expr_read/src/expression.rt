@@ -1,14 +1,14 @@
 // An expression of a line read whole: its shape, its names, its type.
-ghost use Rattle.std.specs.Prelude.{◌≡◌, ◌+◌, ◌-◌, ◌<◌, ◌≤◌, ◌^◌, ◌++◌, ℕ, Bool, List, None, length, map, drop, take, IfOk, IfErr};
+ghost use Rattle.std.specs.Prelude.{◌≡◌, ◌+◌, ◌-◌, ◌<◌, ◌≤◌, ◌^◌, ◌++◌, ℕ, Bool, List, length, map, drop, take, IfOk, IfErr};
 ghost use Rattle.expr_lang.specs.Meaning.{context_of, meaning};
+ghost use Rattle.expr_lang.specs.Units.{units_of};
 ghost use Rattle.spec_text.specs.Reading.{Placed};
-ghost use Rattle.spec_text.specs.Seen.{seen};
 ghost use Rattle.spec_text.specs.Sizes.{token_bytes};
 ghost use Rattle.value_store.specs.Texts.{Grew};
-ghost use Rattle.expr_read.specs.Written.{AreTokensOf, IsExprFault, IsFound, said_in, vocabulary_of};
+ghost use Rattle.expr_read.specs.Written.{AreTokensOf, IsExprFault, IsFound, bytes_between, bytes_told, said_in, vocabulary_of};
 
+use crate::at_place::written_at;
 use crate::fault::ExprFault;
-use crate::parsing::read_written;
 use crate::resolving::meant_in;
 use crate::scope::NameScope;
 use crate::unknown_names::has_unknown;
@@ -16,7 +16,7 @@ use crate::vocabulary::Vocabulary;
 use bumpalo::Bump;
 use ck_base::{Kind, NoMemory};
 use expr_lang::{Expr, Maker};
-use spec_text::{SpecLine, SpecToken, Token, tokens_in};
+use spec_text::SpecToken;
 use std::alloc::Global;
 use value_store::{Literals, ValType};
 
@@ -31,7 +31,8 @@ use value_store::{Literals, ValType};
 /// where there is no such name, but another name isn't there or the expression has no type; then
 /// `next` is the number of the token behind it. `NoMemory` comes where memory is wanting. Texts may
 /// have been put into the literals before a refusal. In any case no more bytes are put there than
-/// the tokens from `at` on have.
+/// the tokens from `at` on have, and no more than those from `at` up to `next` have, where that is told:
+/// none, where no expression stands there. A few tokens behind it are looked at, and not all of them.
 pub fn read_expr<'a>(
     alloc: Global,
     arena: &'a Bump<Global>,
@@ -56,16 +57,23 @@ pub fn read_expr<'a>(
     ensures grew { Grew literals.old literals.new }
     ensures few { (said : List Placed) → AreTokensOf spec.now tokens.now said
         → length literals.new ≤ length literals.old + token_bytes (drop at said) }
+    ensures few_read { IfOk result (λ found. (said : List Placed)
+        → AreTokensOf spec.now tokens.now said
+        → length literals.new ≤ length literals.old + bytes_between said at found.2) }
+    ensures few_told { IfErr result (λ fault. (said : List Placed)
+        → AreTokensOf spec.now tokens.now said
+        → length literals.new ≤ length literals.old + bytes_told said at fault) }
+    ensures further { IfOk result (λ found. at < found.2) }
+    ensures units { IfOk result (λ found. (source more : List ℕ)
+        → units_of (meaning source (literals.new ++ more) found.0.now) ≤ found.2 - at) }
 {
     let texts = Bump::new(alloc);
-    let views = views_from(alloc, &texts, spec, tokens, at)?;
-    let Some((written, rest)) = read_written(&texts, views.as_slice())? else {
+    let Some((written, next)) = written_at(alloc, &texts, spec, tokens, at)? else {
         return Err(ExprFault::Bad {
             kind: Kind::Syntax,
             next: at,
         });
     };
-    let next = next_behind(tokens, rest);
     let types = types_of(alloc, scope.scope.makers)?;
     let words = words_of(scope, types.as_slice());
     if has_unknown(&written, &words) {
@@ -81,46 +89,6 @@ pub fn read_expr<'a>(
         });
     };
     Ok((kept_in(arena, e)?, ty, next))
-}
-
-/// The tokens from the place on, by what they say.
-fn views_from<'s>(
-    alloc: Global,
-    texts: &'s Bump<Global>,
-    spec: &'s [u8],
-    tokens: &[SpecToken],
-    at: usize,
-) -> Result<Vec<Token<'s>>, NoMemory>
-    requires within { at ≤ length tokens.now }
-    requires spelled { (said : List Placed) × AreTokensOf spec.now tokens.now said }
-    ensures { IfOk result (λ views. (said : List Placed) → AreTokensOf spec.now tokens.now said
-        → map seen views.items ≡ drop at (said_in said)) }
-{
-    let line = line_from(alloc, tokens, at)?;
-    let views = tokens_in(alloc, texts, spec, &line)?;
-    Ok(views)
-}
-
-/// A line of the tokens from the place on.
-fn line_from(alloc: Global, tokens: &[SpecToken], at: usize) -> Result<SpecLine, NoMemory>
-    requires { at ≤ length tokens.now }
-    ensures tokens { IfOk result (λ line. line.tokens.items ≡ drop at tokens.now) }
-    ensures number { IfOk result (λ line. line.number ≡ 1) }
-    ensures bad { IfOk result (λ line. line.bad ≡ None) }
-{
-    let behind = &tokens[at..];
-    Ok(SpecLine {
-        number: 1,
-        bad: None,
-        tokens: Vec::from_slice(alloc, behind)?,
-    })
-}
-
-/// The number of the first of these tokens, where they are the last ones.
-fn next_behind(tokens: &[SpecToken], rest: &[Token<'_>]) -> usize
-    ensures { result ≡ length tokens.now - length rest.now }
-{
-    tokens.len().saturating_sub(rest.len())
 }
 
 /// The type of each maker.

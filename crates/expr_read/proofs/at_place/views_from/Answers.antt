@@ -1,6 +1,6 @@
 -- The tokens from the place on are a line of their own.
 use Rattle.expr_read.proofs.FoundParts.{line_there, seen_from}
-use Rattle.expr_read.proofs.expression.views_from.Goals as goal
+use Rattle.expr_read.proofs.at_place.views_from.Goals as goal
 
 pub tokens_in-requires : goal.tokens_in-requires
 tokens_in-requires c =
