@@ -10,11 +10,12 @@ use Rattle.ag_model.specs.declared.attribution.Place.TheVariants.{Own, Child}
 abbrev pub IsPlace : AttributeGrammar → ℕ → Place → Type 0
 IsPlace g t u = (attribute : Attribute) × (attribute_at g t u ≡ Some attribute)
 
--- what a type's equations give: the own synthesized attributes, and the inherited ones of the children
+-- whether it is the synthesized attributes that a type's equations give at the place: of itself yes, of a child no
 abbrev pub is_given : Place → Bool
 is_given (Own a) = true
 is_given (Child c a) = false
 
+-- what a type's equations give: the own synthesized attributes, and the inherited ones of the children
 abbrev pub IsGiven : AttributeGrammar → ℕ → Place → Type 0
 IsGiven g t u = (attribute : Attribute) × (attribute_at g t u ≡ Some attribute) × (attribute.synthesized ≡ is_given u)
 
