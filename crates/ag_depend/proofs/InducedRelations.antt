@@ -23,7 +23,7 @@ use Rattle.ag_depend.specs.Blocks.{block_at, IsShapeOf, AreShapes}
 use Rattle.ag_depend.specs.Promise.{AreIds, AreIdps, SaysIdsCycle, Names}
 use Rattle.ag_depend.specs.declared.fault.OrderFault.{OrderFault}
 use Rattle.ag_depend.specs.declared.fault.OrderFault.TheVariants.{NotOrdered, NoMemory}
-use Rattle.ag_depend.specs.Rows.{AreEmpty, AreWorks, HaveNoCycle, IsFirstIn}
+use Rattle.ag_depend.specs.within.Rows.{AreEmpty, AreWorks, HaveNoCycle, IsFirstIn}
 use Rattle.ag_depend.specs.Shapes.{pairs_of, Needs, directly, lifted, IsLifted, IsWork, AreInside, AreAllInside, IsSound, NumberedIdp, NumberedIds}
 use Rattle.ag_depend.specs.Shapes.NumberedIdp.{direct, lift}
 use Rattle.ag_depend.proofs.NumbersAreIds.{IdpAt, IdsAt, idp_of_numbers, ids_of_numbers, numbers_of_idp, numbers_of_ids}
