@@ -2,6 +2,7 @@ pub mod Adding
 pub mod ChildNames
 pub mod EachIsPlaced
 pub mod EdpNumbers
+mod Examples
 pub mod PartsAndReports
 pub mod MakerEnds
 pub mod MakerSteps

@@ -18,9 +18,9 @@ use Rattle.ag_model.specs.declared.attribution.Place.{Place}
 use Rattle.ag_model.specs.declared.attribution.Place.TheVariants.{Own, Child}
 use Rattle.ag_model.specs.declared.plan.PlanStep.{PlanStep}
 use Rattle.ag_model.specs.declared.plan.PlanStep.TheVariants.{Evaluate, Visit, Leave}
-use Rattle.ag_planner.specs.Made.{IsMade, IsCounted, DoneBefore}
-use Rattle.ag_planner.specs.Sets.{AreSets, AreParts}
-use Rattle.ag_planner.specs.Tasks.{IsReady, IsSoFar, IsOrderOf, g_of, set_plan, own_sets, below, child_total, own_equations}
+use Rattle.ag_planner.specs.within.Made.{IsMade, IsCounted, DoneBefore}
+use Rattle.ag_planner.specs.within.Sets.{AreSets, AreParts}
+use Rattle.ag_planner.specs.within.Tasks.{IsReady, IsSoFar, IsOrderOf, g_of, set_plan, own_sets, below, child_total, own_equations}
 use Rattle.ag_planner.specs.declared.maker.Task.{Task}
 use Rattle.ag_planner.specs.declared.maker.Maker.{Maker}
 use Rattle.ag_planner.proofs.OrderOfEdp.{HasParts, edp_order, kind_is, same_kind}

@@ -11,7 +11,7 @@ use Rattle.ag_model.specs.declared.plan.PlanStep.TheVariants.{Evaluate, Visit, L
 use Rattle.ag_model.specs.Plans.{is_leave, is_visit, one_if, counted, InSet, visit_count, TakesIn, Gives, Evaluates, EvaluatedBefore, AtHand, TypeFits}
 use Rattle.ag_model.proofs.Counted.{counted_more, counted_le, counted_before, Passes, counted_at}
 use Rattle.ag_planner.proofs.Turns.{is_visit_step, is_leave_step}
-use Rattle.ag_planner.specs.Made.{SoFar, IsMade}
+use Rattle.ag_planner.specs.within.Made.{SoFar, IsMade}
 use Rattle.ag_planner.proofs.PlanSoFar.{get_pushed, old_stays, new_stands, counted_front, evaluated_pushed, at_hand_pushed, Allows, pushed}
 
 -- the last step counts too

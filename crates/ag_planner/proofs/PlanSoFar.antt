@@ -9,7 +9,7 @@ use Rattle.ag_model.specs.Attribution.{PureEquation}
 use Rattle.ag_model.specs.declared.plan.PlanStep.{PlanStep}
 use Rattle.ag_model.specs.declared.plan.PlanStep.TheVariants.{Evaluate, Visit, Leave}
 use Rattle.ag_model.specs.Plans.{is_leave, is_visit, one_if, counted, InSet, visit_count, TakesIn, Gives, Evaluates, EvaluatedBefore, AtHand, TypeFits}
-use Rattle.ag_planner.specs.Made.{SoFar}
+use Rattle.ag_planner.specs.within.Made.{SoFar}
 use Rattle.ag_model.proofs.Counted.{counted_more, counted_le, counted_before, Passes, counted_at}
 use Rattle.ag_planner.proofs.Turns.{is_visit_step, is_leave_step}
 

@@ -4,9 +4,9 @@ use Rattle.std.specs.Global.{Global}
 use Rattle.std.proofs.lemmas.List.{length-map}
 use Rattle.ag_model.proofs.TypesInRange.{child_there}
 use Rattle.ag_model.specs.Plans.{sets_at, sets_of}
-use Rattle.ag_planner.specs.Sets.{lists, pure_sets}
+use Rattle.ag_planner.specs.within.Sets.{lists, pure_sets}
 use Rattle.ag_planner.proofs.Reading.{sets_read}
-use Rattle.ag_planner.specs.Tasks.{below, g_of, set_plan}
+use Rattle.ag_planner.specs.within.Tasks.{below, g_of, set_plan}
 use Rattle.ag_planner.proofs.maker.child_sets_of.Goals as goal
 
 pub returns-clause-is : goal.returns-clause-is
