@@ -1,5 +1,5 @@
 -- The tokens that a parser draws from a source, and what its answer says of the source.
-use Rattle.std.proofs.Common.{◌≡◌, ℕ, ◌+◌, ◌^◌, ◌<◌, ◌≤◌, inl, inr, List, [], ◌∷◌, ◌++◌, length, map, All, Some, IfSome, Err, sym, subst, arith, slice_get}
+use Rattle.std.proofs.Common.{◌≡◌, ℕ, ◌+◌, ◌^◌, ◌<◌, ◌≤◌, inl, inr, List, [], ◌∷◌, ◌++◌, length, map, All, Some, Err, sym, subst, arith, slice_get}
 use Rattle.std.proofs.lemmas.List.Elements.{All-cons, All-nil, All-head, All-tail}
 use Rattle.cfg_model.specs.Cfg.{Cfg}
 use Rattle.cfg_model.specs.Derivation.{Forest, empty, leaf, node, yield, Move, shift, reduce, postorder}
@@ -24,14 +24,16 @@ use Rattle.parse_driver.specs.declared.step.Step.TheVariants as act
 use Rattle.parse_driver.specs.declared.tokens.TokenRef.{TokenRef}
 use Rattle.parse_driver.proofs.Parsing.{holds_of_token}
 use Rattle.ck_chain.specs.DeriveText.{derive_text}
-use Rattle.ck_chain.specs.Deriving.{Comes, Deriving, syntax_error, bad_token, derived}
+use Rattle.ck_chain.specs.Deriving.{Comes, Deriving, DerivingFails, syntax_error, bad_token}
+use Rattle.ck_chain.specs.InOrder.{told}
 use Rattle.ck_chain.specs.Outcome.{output}
-use Rattle.ck_chain.specs.Promise.{IsParserOf, answer_in}
+use Rattle.ck_chain.specs.Promise.{IsParserOf, Refuses}
 use Rattle.ck_chain.specs.declared.toolset.Parser.{Parser}
 use Rattle.ck_chain.specs.declared.toolset.Parser.TheVariants as parser
 use Rattle.ck_chain.specs.within.Refusing.{refused_at, IsPlaceIn}
 use Rattle.ck_chain.specs.within.Scanners.{ScansBy}
 use Rattle.ck_chain.specs.within.Steps.{IsInside, IsTokenInside}
+use Rattle.ck_chain.specs.within.Trees.{AreStepsOf}
 use Rattle.ck_chain.specs.within.Streams.{ComesBy, Left}
 use Rattle.ck_chain.proofs.HasRun.{has_run, numbers_below, LieInside, comes_inside}
 
@@ -135,18 +137,30 @@ module _ (text : List ℕ) where
   place_inside g tokens ending (fault.BadToken at) lie bad = lie.end at (inr bad.ended)
   place_inside g tokens ending fault.NoMemory lie free = tt
 
--- and is that of the answer
+-- and its refusal is the one with which deriving fails
 pub refused_there : (rules : Rules) (g : NamedGrammar) (source : List ℕ) (tokens : List TokenRef) (ending : Ending) (error : ParseError)
     → Comes rules.list source 0 0 tokens ending → Parses g.grammar tokens ending (Err error)
-    → IfSome (answer_in (Err (refused_at source error))) (Deriving rules g source)
+    → Refuses (DerivingFails rules g source) (refused_at source error)
 refused_there rules g source tokens ending (fault.SyntaxError k at) comes wrong = syntax_error tokens ending k at comes wrong
 refused_there rules g source tokens ending (fault.BadToken at) comes bad = bad_token tokens ending at comes bad
 refused_there rules g source tokens ending fault.NoMemory comes free = tt
 
--- the printed steps are those of the derivation
-pub derived_text : (rules : Rules) (g : NamedGrammar) (source : List ℕ) (tokens : List TokenRef) (ending : Ending) (steps : List Step) (text : List ℕ)
-    → Comes rules.list source 0 0 tokens ending → IsParsed g.grammar tokens ending steps
+-- the steps of a parse are those of a derivation of the source
+pub steps_derive : (rules : Rules) (g : NamedGrammar) (source : List ℕ) (tokens : List TokenRef) (ending : Ending) (steps : List Step)
+    → Comes rules.list source 0 0 tokens ending → LieInside source 0 tokens ending → IsParsed g.grammar tokens ending steps
+    → AreStepsOf rules g source steps
+steps_derive rules g source tokens ending steps comes lie parsed = record {
+  derived = record { tokens = tokens; forest = parsed.forest };
+  derives = record {
+    place = parsed.place;
+    comes = subst (Comes rules.list source 0 0 tokens) parsed.ended comes;
+    derivation = parsed.derivation;
+  };
+  reading = record { derivation = parsed.derivation; in_postorder = parsed.in_postorder };
+  inside = steps_inside source g.grammar tokens ending steps lie parsed;
+}
+
+-- the printed steps are the derivation's text
+pub steps_printed : (rules : Rules) (g : NamedGrammar) (source : List ℕ) (steps : List Step) (text : List ℕ) → AreStepsOf rules g source steps
     → text ≡ derive_text rules.tokens g.labels source (map move_of steps) → Deriving rules g source (output text)
-derived_text rules g source tokens ending steps text comes parsed is =
-    rw (is, parsed.in_postorder) (derived tokens parsed.place parsed.forest
-    (subst (Comes rules.list source 0 0 tokens) parsed.ended comes) parsed.derivation)
+steps_printed rules g source steps text are is = rw (is, are.reading.in_postorder) (told are.derived are.derives)

@@ -1,5 +1,5 @@
 -- Printed tokens and derivations, accepted and refused specifications, tried on cases that are worked by hand.
-use Rattle.std.proofs.Common.{◌≡◌, ◌==◌, ◌<◌, ℕ, zero, suc, Bool, List, [], ◌∷◌, ◌++◌, length, Contains, Some, None, codes, refl, sym, ap, ◌∙◌, subst, arith, slice_get}
+use Rattle.std.proofs.Common.{inl, inr, ◌≡◌, ◌==◌, ◌<◌, ℕ, zero, suc, Bool, List, [], ◌∷◌, ◌++◌, length, Contains, Option, Some, None, codes, refl, sym, ap, ◌∙◌, subst, arith, slice_get}
 use Rattle.std.specs.Fmt.{digits}
 use Rattle.ck_base.specs.Counts.{HasMoreThan}
 use Rattle.ck_base.specs.Found.{HasNo}
@@ -21,18 +21,20 @@ use Rattle.spec_text.proofs.SectionExamples.{rex_end_file, rex_end_lines, rex_en
 use Rattle.front_spec.specs.GrammarPromise.{HasGrammar, IsGrammarSection, for_lalr, for_ell}
 use Rattle.front_spec.specs.RexRules.{rules_by}
 use Rattle.front_spec.proofs.RexExamples.{rex_end_declares}
+use Rattle.node_model.specs.Nodes.{Nodes}
 use Rattle.ck_chain.specs.Accepts.{built, RefusesSpec, too_long, Accepts}
-use Rattle.ck_chain.specs.Answers.{Misses, no_grammar, no_grammar_of_tree, no_nodes, Makes, tokens, derive, tree, AnswerOf, lacks, makes}
+use Rattle.ck_chain.specs.Answers.{depth_with, Misses, Makes, tokens, derive, tree, AnswerOf, lacks, makes}
 use Rattle.ck_chain.specs.AstAccepts.{without_grammar}
 use Rattle.ck_chain.specs.DeriveText.{derive_text}
-use Rattle.ck_chain.specs.Deriving.{Deriving}
+use Rattle.ck_chain.specs.Deriving as Deriving
+use Rattle.ck_chain.specs.InOrder.{told, failed}
 use Rattle.ck_chain.specs.GrammarAccepts.{absent, label_of, terminal_name}
 use Rattle.ck_chain.specs.Outcome.{Outcome, refused}
 use Rattle.ck_chain.specs.RexAccepts.{HaveTables}
-use Rattle.ck_chain.specs.Scanning.{Scanning}
+use Rattle.ck_chain.specs.Scanning as Scanning
 use Rattle.ck_chain.specs.TokenText.{token_line, tokens_text}
 use Rattle.ck_chain.specs.Tools.{Tools}
-use Rattle.ck_chain.specs.Treeing as treeing
+use Rattle.ck_chain.specs.Treeing as Treeing
 use Rattle.ck_chain.specs.declared.stage.Stage.{Stage}
 use Rattle.ck_chain.specs.declared.stage.Stage.TheVariants.{Tokens as of_tokens, Derive as of_derive, Tree as of_tree}
 
@@ -129,19 +131,24 @@ accepts_none = record {
 
 -- tokens need no section that may be missing, and a derivation needs a grammar
 pub tokens_need_none : (tools : Tools) → HasNo (Misses tools of_tokens)
-tokens_need_none tools section misses = elim misses [ ]
+tokens_need_none tools section misses = by tools.grammar tools.nodes misses.less
+  where
+    by : (g : Option NamedGrammar) (nodes : Option Nodes) → depth_with g nodes < 1 → ⊥
+    by None nodes less = omega (arith, less)
+    by (Some g) None less = omega (arith, less)
+    by (Some g) (Some nodes) less = omega (arith, less)
 
 pub derivation_needs_grammar : (rules : Rules)
     → Misses (record { rules = rules; grammar = None; nodes = None }) of_derive Lalr
-derivation_needs_grammar rules = no_grammar refl
+derivation_needs_grammar rules = record { less = omega arith; is = refl }
 
 -- a tree needs a grammar first, then the nodes
 tree_needs_grammar : (rules : Rules) → Misses (record { rules = rules; grammar = None; nodes = None }) of_tree Lalr
-tree_needs_grammar rules = no_grammar_of_tree refl
+tree_needs_grammar rules = record { less = omega arith; is = refl }
 
 tree_needs_nodes : (rules : Rules) (g : NamedGrammar)
     → Misses (record { rules = rules; grammar = Some g; nodes = None }) of_tree Ast
-tree_needs_nodes rules g = no_nodes g refl refl
+tree_needs_nodes rules g = record { less = omega arith; is = refl }
 
 -- END is the terminal behind all tokens, and rules count from 1
 end_name : terminal_name (codes "X" ∷ codes "Y" ∷ []) 2 ≡ codes "END"
@@ -171,16 +178,12 @@ source_at_the_limit stage tools source size answers = by (refused refusal.Source
     by _ (makes o none fits made) is = made_too_long stage o made is
       where
         made_too_long : (stage : Stage) (o : Outcome) → Makes tools source stage o → o ≡ refused refusal.SourceTooLong → ⊥
-        made_too_long _ _ (tokens o (Scanning.bad_token ts at run)) is = cc
-        made_too_long _ _ (tokens o (Scanning.printed ts run)) is = cc
-        made_too_long _ _ (derive g o given (Deriving.syntax_error ks e n at comes wrong)) is = cc
-        made_too_long _ _ (derive g o given (Deriving.bad_token ks e at comes bad)) is = cc
-        made_too_long _ _ (derive g o given (Deriving.derived ks place f comes d)) is = cc
-        made_too_long _ _ (tree g nodes o given given_nodes (treeing.wrong _ (Deriving.syntax_error ks e n at comes wrong))) is =
-            cc
-        made_too_long _ _ (tree g nodes o given given_nodes (treeing.wrong _ (Deriving.bad_token ks e at comes bad))) is =
-            cc
-        made_too_long _ _ (tree g nodes o given given_nodes (treeing.shown ks place f _ comes d (treeing.too_large more))) is =
-            cc
-        made_too_long _ _ (tree g nodes o given given_nodes (treeing.shown ks place f _ comes d (treeing.printed few))) is =
-            cc
+        made_too_long _ _ (tokens o (told ts run)) is = cc
+        made_too_long _ _ (tokens o (failed _ (Scanning.bad_token ts at run))) is = cc
+        made_too_long _ _ (derive g o given (told d derives)) is = cc
+        made_too_long _ _ (derive g o given (failed _ (Deriving.syntax_error ks e n at comes wrong))) is = cc
+        made_too_long _ _ (derive g o given (failed _ (Deriving.bad_token ks e at comes bad))) is = cc
+        made_too_long _ _ (tree g nodes o given given_nodes (told both has)) is = cc
+        made_too_long _ _ (tree g nodes o given given_nodes (failed _ (inl (Deriving.syntax_error ks e n at comes wrong)))) is = cc
+        made_too_long _ _ (tree g nodes o given given_nodes (failed _ (inl (Deriving.bad_token ks e at comes bad)))) is = cc
+        made_too_long _ _ (tree g nodes o given given_nodes (failed _ (inr (d, derives, Treeing.too_large more)))) is = cc

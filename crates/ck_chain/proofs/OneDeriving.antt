@@ -1,11 +1,12 @@
--- Deriving a source by a grammar with a table has one answer: not two, and it can't be that there is none.
+-- Deriving a source by a grammar with a table is a step: it gives one derivation, or fails with one refusal.
 use Rattle.std.proofs.Common.{◌≡◌, ℕ, ◌+◌, ◌<◌, inl, inr, List, [], ◌∷◌, ◌++◌, length, map, refl, sym, ap, ap₂, ◌∙◌, subst, append_assoc, arith}
 use Rattle.std.proofs.lemmas.Bool.{cases_lt}
 use Rattle.std.proofs.lemmas.List.{append-nil}
 use Rattle.ck_base.specs.Found.{HasNo}
+use Rattle.ck_base.specs.declared.refusal.Refusal.{Refusal}
 use Rattle.ck_base.specs.declared.refusal.Refusal.TheVariants as refusal
 use Rattle.cfg_model.specs.Cfg.{Cfg, IsGrammar}
-use Rattle.cfg_model.specs.Derivation.{Forest, postorder, Derivation, IsSentence, IsViable}
+use Rattle.cfg_model.specs.Derivation.{Forest, Derivation, IsSentence, IsViable}
 use Rattle.cfg_model.specs.Sets.{AllProductive}
 use Rattle.cfg_model.specs.declared.named.NamedGrammar.{NamedGrammar}
 use Rattle.cfg_model.specs.declared.symbol.Sym.TheVariants.{N}
@@ -22,10 +23,9 @@ use Rattle.parse_driver.specs.declared.tokens.TokenRef.{TokenRef}
 use Rattle.parse_driver.proofs.Labels.{terminals_beside, plain_sentence, labelled_sentence}
 use Rattle.parse_driver.proofs.LrOneDerivation as lr
 use Rattle.parse_driver.proofs.OneDerivation as ll
-use Rattle.ck_chain.specs.DeriveText.{derive_text}
-use Rattle.ck_chain.specs.Deriving.{Comes, ref_of, ending_at, Deriving, syntax_error, bad_token, derived}
+use Rattle.ck_chain.specs.Deriving.{Comes, ref_of, ending_at, Derived, Derives, DerivingFails, syntax_error, bad_token}
 use Rattle.ck_chain.specs.GrammarAccepts.{HasTable, for_ll, for_lr}
-use Rattle.ck_chain.specs.Outcome.{Outcome, output, refused}
+use Rattle.ck_chain.proofs.InOrder.{IsStep}
 
 -- the tokens of a source and their ending are determined
 pub one_stream : (rules : List Rule) (source : List ℕ) (ks ls : List TokenRef) (e f : Ending)
@@ -125,34 +125,34 @@ module _ (rules : Rules) (g : NamedGrammar) (has : HasTable g) (source : List �
       let (tokens, endings) = one_stream rules.list source ks ls e f a b in
       subst (λ l. P l e) (sym tokens) (subst (P ls) (sym endings) p)
 
-  pub one_deriving : (o p : Outcome) → Deriving rules g source o → Deriving rules g source p → o ≡ p
-  one_deriving _ _ (syntax_error ks e k at a wrong) (syntax_error ls f j place b wrong2) =
+  one_derivation : (a b : Derived) → Derives rules g source a → Derives rules g source b → a ≡ b
+  one_derivation a b its its2 =
+      let (tokens, endings) = one_stream rules.list source a.tokens b.tokens (finished its.place) (finished its2.place) its.comes its2.comes in
+      let forests = one_forest g has b.tokens a.forest b.forest (subst (λ l. Derivation terminal_of g.grammar l a.forest) tokens its.derivation) its2.derivation in
+      ap₂ (λ l f. record { tokens = l; forest = f }) tokens forests
+
+  one_failure : (r s : Refusal) → DerivingFails rules g source r → DerivingFails rules g source s → r ≡ s
+  one_failure _ _ (syntax_error ks e k at a wrong) (syntax_error ls f j place b wrong2) =
       let same = one_wrong g.grammar ks e k j at place wrong (by_stream ks ls e f a b (λ l x. IsFirstWrong g.grammar l x j place) wrong2) in
-      ap (λ n. refused (refusal.SyntaxError (line_at source n) (column_at source n))) same
-  one_deriving _ _ (syntax_error ks e k at a wrong) (bad_token ls f place b bad) =
+      ap (λ n. refusal.SyntaxError (line_at source n) (column_at source n)) same
+  one_failure _ _ (syntax_error ks e k at a wrong) (bad_token ls f place b bad) =
       absurd (wrong_not_bad g.grammar ks e k at place wrong (by_stream ks ls e f a b (λ l x. IsBadToken g.grammar l x place) bad))
-  one_deriving _ _ (syntax_error ks e k at a wrong) (derived ls place h b d) =
-      absurd (wrong_not_derived g.grammar ks e k at h wrong (by_stream ks ls e (finished place) a b (λ l x. Derivation terminal_of g.grammar l h) d))
-  one_deriving _ _ (bad_token ks e at a bad) (syntax_error ls f j place b wrong) =
+  one_failure _ _ (bad_token ks e at a bad) (syntax_error ls f j place b wrong) =
       absurd (wrong_not_bad g.grammar ls f j place at wrong (by_stream ls ks f e b a (λ l x. IsBadToken g.grammar l x at) bad))
-  one_deriving _ _ (bad_token ks e at a bad) (bad_token ls f place b bad2) =
+  one_failure _ _ (bad_token ks e at a bad) (bad_token ls f place b bad2) =
       let other = by_stream ks ls e f a b (λ l x. IsBadToken g.grammar l x place) bad2 in
       let ends : bad_at at ≡ bad_at place = sym bad.ended ∙ other.ended in
       let same : at ≡ place = cc in
-      ap (λ n. refused (refusal.BadToken (line_at source n) (column_at source n))) same
-  one_deriving _ _ (bad_token ks e at a bad) (derived ls place h b d) =
-      let (tokens, endings) = one_stream rules.list source ks ls e (finished place) a b in
-      let ends : bad_at at ≡ finished place = sym bad.ended ∙ endings in
+      ap (λ n. refusal.BadToken (line_at source n) (column_at source n)) same
+
+  not_both : (d : Derived) (r : Refusal) → Derives rules g source d → DerivingFails rules g source r → ⊥
+  not_both d _ its (syntax_error ks e k at a wrong) =
+      wrong_not_derived g.grammar ks e k at d.forest wrong
+      (by_stream ks d.tokens e (finished its.place) a its.comes (λ l x. Derivation terminal_of g.grammar l d.forest) its.derivation)
+  not_both d _ its (bad_token ks e at a bad) =
+      let (tokens, endings) = one_stream rules.list source ks d.tokens e (finished its.place) a its.comes in
+      let ends : bad_at at ≡ finished its.place = sym bad.ended ∙ endings in
       cc
-  one_deriving _ _ (derived ks place f a d) (syntax_error ls e j at b wrong) =
-      absurd (wrong_not_derived g.grammar ls e j at f wrong (by_stream ls ks e (finished place) b a (λ l x. Derivation terminal_of g.grammar l f) d))
-  one_deriving _ _ (derived ks place f a d) (bad_token ls e at b bad) =
-      let (tokens, endings) = one_stream rules.list source ls ks e (finished place) b a in
-      let ends : bad_at at ≡ finished place = sym bad.ended ∙ endings in
-      cc
-  one_deriving _ _ (derived ks place f a d) (derived ls place2 h b d2) =
-      let same = one_forest g has ks f h d (by_stream ks ls (finished place) (finished place2) a b (λ l x. Derivation terminal_of g.grammar l h) d2) in
-      ap (λ x. output (derive_text rules.tokens g.labels source (postorder x))) same
 
   -- the empty list is viable, since the start symbol derives a word
   nothing_read : IsViable g.grammar (terminals_of [])
@@ -170,22 +170,34 @@ module _ (rules : Rules) (g : NamedGrammar) (has : HasTable g) (source : List �
     viable_all before (t ∷ rest) are viable not = none_is_wrong (length before + 1) t.from (a_token before rest t are viable
         (λ next. viable_all (before ++ (t ∷ [])) rest (are ∙ with_next g.grammar before rest t) next not))
 
-  pub some_deriving : HasNo (Deriving rules g source) → ⊥
-  some_deriving no_answer = some_run rules.list source 0 0 (omega arith) (λ scanned found. by scanned found.0 found.1)
+  some_derivation : HasNo (Derives rules g source) → HasNo (DerivingFails rules g source) → ⊥
+  some_derivation none no_failure = some_run rules.list source 0 0 (omega arith) (λ scanned found. by scanned found.0 found.1)
     where
       answer : (tokens : List TokenRef) (ending : Ending) → Comes rules.list source 0 0 tokens ending → IsViable g.grammar (terminals_of tokens) → ⊥
-      answer tokens (finished place) comes viable = no_answer _ (syntax_error tokens (finished place) (length tokens + 1) place comes
+      answer tokens (finished place) comes viable = no_failure _ (syntax_error tokens (finished place) (length tokens + 1) place comes
           (the_end place refl viable (λ sentence.
           let (f, d) = labelled_sentence g.grammar tokens sentence in
-          no_answer _ (derived tokens place f comes d))))
+          none (record { tokens = tokens; forest = f }) (record { place = place; comes = comes; derivation = d }))))
       answer tokens (bad_at place) comes viable =
-          no_answer _ (bad_token tokens (bad_at place) place comes (record { ended = refl; viable = viable }))
+          no_failure _ (bad_token tokens (bad_at place) place comes (record { ended = refl; viable = viable }))
 
       by : (scanned : List Token) (ended : run.Ending) → run.Tokens rules.list source 0 0 scanned ended → ⊥
       by scanned ended its =
           let comes : Comes rules.list source 0 0 (map ref_of scanned) (ending_at (length source) ended) =
           record { scanned = scanned; ended = ended; run = its; tokens_are = refl; ending_is = refl } in
           viable_all (map ref_of scanned) (ending_at (length source) ended)
-          (λ k at wrong. no_answer _ (syntax_error (map ref_of scanned) (ending_at (length source) ended) k at comes wrong))
+          (λ k at wrong. no_failure _ (syntax_error (map ref_of scanned) (ending_at (length source) ended) k at comes wrong))
           [] (map ref_of scanned) refl nothing_read
           (λ viable. answer (map ref_of scanned) (ending_at (length source) ended) comes viable)
+
+  -- deriving is a step
+  pub derive_step : IsStep (Derives rules g source) (DerivingFails rules g source)
+  derive_step = record { one_gift = one_derivation; one_failure = one_failure; not_both = not_both; some = some_derivation }
+
+-- it isn't refused as wrong words
+pub deriving_never_usage : (rules : Rules) (g : NamedGrammar) (source : List ℕ) → DerivingFails rules g source refusal.Usage → ⊥
+deriving_never_usage rules g source fails = by refusal.Usage fails refl
+  where
+    by : (r : Refusal) → DerivingFails rules g source r → r ≡ refusal.Usage → ⊥
+    by _ (syntax_error ks e k at comes wrong) is = cc
+    by _ (bad_token ks e at comes bad) is = cc

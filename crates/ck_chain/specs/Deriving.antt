@@ -1,5 +1,6 @@
 -- What deriving makes of a source.
 use Rattle.std.specs.Prelude.{◌≡◌, ℕ, List, length, map}
+use Rattle.ck_base.specs.declared.refusal.Refusal.{Refusal}
 use Rattle.ck_base.specs.declared.refusal.Refusal.TheVariants.{BadToken, SyntaxError}
 use Rattle.cfg_model.specs.Derivation.{Forest, Derivation, postorder}
 use Rattle.cfg_model.specs.declared.named.NamedGrammar.{NamedGrammar}
@@ -11,7 +12,8 @@ use Rattle.parse_driver.specs.Parse.{IsFirstWrong, IsBadToken}
 use Rattle.parse_driver.specs.Stream.{Ending, finished, bad_at, terminal_of}
 use Rattle.parse_driver.specs.declared.tokens.TokenRef.{TokenRef}
 use Rattle.ck_chain.specs.DeriveText.{derive_text}
-use Rattle.ck_chain.specs.Outcome.{Outcome, output, refused}
+use Rattle.ck_chain.specs.InOrder.{Printed}
+use Rattle.ck_chain.specs.Outcome.{Outcome}
 
 -- a token of a text, as a parser has it
 abbrev pub ref_of : Token → TokenRef
@@ -30,15 +32,30 @@ pub record Comes (rules : List Rule) (source : List ℕ) (state at : ℕ) (token
   pub tokens_are : tokens ≡ map ref_of scanned
   pub ending_is : ending ≡ ending_at (length source) ended
 
--- deriving the source by the grammar: a refusal for the first token that isn't viable, or for the bad
--- place behind viable tokens, else the derivation of its tokens in print
-pub data Deriving (rules : Rules) (g : NamedGrammar) (source : List ℕ) : Outcome → Type 0 where
+-- tokens, and a forest over them
+pub record Derived : Type 0 where
+  pub tokens : List TokenRef
+  pub forest : Forest TokenRef
+
+-- the source has these tokens and no bad place, and the forest is their derivation by the grammar
+pub record Derives (rules : Rules) (g : NamedGrammar) (source : List ℕ) (d : Derived) : Type 0 where
+  pub place : ℕ
+  pub comes : Comes rules.list source 0 0 d.tokens (finished place)
+  pub derivation : Derivation terminal_of g.grammar d.tokens d.forest
+
+-- deriving the source is refused for the first token that isn't viable, or for the bad place behind viable tokens
+pub data DerivingFails (rules : Rules) (g : NamedGrammar) (source : List ℕ) : Refusal → Type 0 where
   syntax_error : (tokens : List TokenRef) (ending : Ending) (k at : ℕ) → Comes rules.list source 0 0 tokens ending
       → IsFirstWrong g.grammar tokens ending k at
-      → Deriving rules g source (refused (SyntaxError (line_at source at) (column_at source at)))
+      → DerivingFails rules g source (SyntaxError (line_at source at) (column_at source at))
   bad_token : (tokens : List TokenRef) (ending : Ending) (at : ℕ) → Comes rules.list source 0 0 tokens ending
       → IsBadToken g.grammar tokens ending at
-      → Deriving rules g source (refused (BadToken (line_at source at) (column_at source at)))
-  derived : (tokens : List TokenRef) (place : ℕ) (f : Forest TokenRef) → Comes rules.list source 0 0 tokens (finished place)
-      → Derivation terminal_of g.grammar tokens f
-      → Deriving rules g source (output (derive_text rules.tokens g.labels source (postorder f)))
+      → DerivingFails rules g source (BadToken (line_at source at) (column_at source at))
+
+-- the derivation in print: its steps, bottom-up
+abbrev pub derived_text : Rules → NamedGrammar → List ℕ → Derived → List ℕ
+derived_text rules g source d = derive_text rules.tokens g.labels source (postorder d.forest)
+
+-- the derivation of the source by the grammar in print, or the refusal
+abbrev pub Deriving : Rules → NamedGrammar → List ℕ → Outcome → Type 0
+Deriving rules g source = Printed (Derives rules g source) (DerivingFails rules g source) (derived_text rules g source)

@@ -4,6 +4,7 @@ pub mod AstAccepts
 pub mod DeriveText
 pub mod Deriving
 pub mod GrammarAccepts
+pub mod InOrder
 pub mod Outcome
 pub mod Promise
 pub mod RexAccepts

@@ -1,7 +1,7 @@
 // What an accepted specification gives: scanner, parser and node types, as far as it has their sections.
 ghost use Rattle.std.specs.Prelude.{◌≡◌};
 ghost use Rattle.ck_base.specs.Found.{Finds};
-ghost use Rattle.ck_chain.specs.Answers.{Misses};
+ghost use Rattle.ck_chain.specs.Answers.{Misses, depth, section_at as behind};
 ghost use Rattle.ck_chain.specs.Promise.{tools_of};
 
 use crate::stage::Stage;
@@ -46,11 +46,33 @@ impl<'a> Toolset<'a> {
     pub fn missing(&self, stage: Stage) -> Option<Section>
         ensures { Finds (λ section. section) (Misses (tools_of self.now) stage) result }
     {
-        match (stage, &self.grammar, &self.nodes) {
-            (Stage::Derive, None, _) => Some(Section::Lalr),
-            (Stage::Tree, None, _) => Some(Section::Lalr),
-            (Stage::Tree, Some(_), None) => Some(Section::Ast),
-            _ => None,
+        let depth = self.depth();
+        if depth < stage.needs() {
+            Some(section_at(depth))
+        } else {
+            None
         }
+    }
+
+    /// How many sections there are: REX, a grammar, and AST behind a grammar.
+    fn depth(&self) -> u32
+        ensures { result ≡ depth (tools_of self.now) }
+    {
+        match (&self.grammar, &self.nodes) {
+            (None, _) => 1,
+            (Some(_), None) => 2,
+            (Some(_), Some(_)) => 3,
+        }
+    }
+}
+
+/// The section behind so many; LALR for a grammar.
+fn section_at(depth: u32) -> Section
+    ensures { result ≡ behind depth }
+{
+    match depth {
+        0 => Section::Rex,
+        1 => Section::Lalr,
+        _ => Section::Ast,
     }
 }

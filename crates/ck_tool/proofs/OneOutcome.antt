@@ -1,5 +1,5 @@
 -- A run has one answer to give at most.
-use Rattle.std.proofs.Common.{◌≡◌, ℕ, List, [], ◌∷◌, ◌++◌, refl, sym, ap, ◌∙◌, subst, Option, None, Some, IsSome, append_assoc, arith, get_or}
+use Rattle.std.proofs.Common.{◌≡◌, ℕ, List, [], ◌∷◌, ◌++◌, refl, sym, ap, ◌∙◌, subst, Option, None, Some, IsSome, append_assoc, arith, get_or, if◌then◌else◌, nat_eq}
 use Rattle.std.proofs.lemmas.List.{append-nil}
 use Rattle.ck_io.specs.Contents.{IsTold}
 use Rattle.ck_chain.specs.Answers.{missing_refusal}
@@ -12,16 +12,18 @@ use Rattle.ck_chain.proofs.AcceptedOrRefused.{one_refusal, refused_or_accepted, 
 use Rattle.ck_chain.proofs.OneAnswer.{one_answer, one_missing}
 
 -- each stage has a name of its own
+stage_named : List ℕ → Stage
+stage_named name =
+    if nat_eq (get_or name 0 0) 100 then stages.Derive else if nat_eq (get_or name 1 0) 111 then stages.Tokens else stages.Tree
+
+-- one case for each stage
+named_back : (stage : Stage) → stage_named (name_of stage) ≡ stage
+named_back stages.Tokens = refl
+named_back stages.Derive = refl
+named_back stages.Tree = refl
+
 one_stage : (these those : Stage) → name_of these ≡ name_of those → these ≡ those
-one_stage stages.Tokens stages.Tokens same = refl
-one_stage stages.Tokens stages.Derive same = absurd (omega (arith, ap (λ l. get_or l 0 0) same))
-one_stage stages.Derive stages.Tokens same = absurd (omega (arith, ap (λ l. get_or l 0 0) same))
-one_stage stages.Derive stages.Derive same = refl
-one_stage stages.Tokens stages.Tree same = absurd (omega (arith, ap (λ l. get_or l 1 0) same))
-one_stage stages.Tree stages.Tokens same = absurd (omega (arith, ap (λ l. get_or l 1 0) same))
-one_stage stages.Derive stages.Tree same = absurd (omega (arith, ap (λ l. get_or l 0 0) same))
-one_stage stages.Tree stages.Derive same = absurd (omega (arith, ap (λ l. get_or l 0 0) same))
-one_stage stages.Tree stages.Tree same = refl
+one_stage these those same = sym (named_back these) ∙ ap stage_named same ∙ named_back those
 
 -- the words ask for one stage
 pub same_stage : (words : List (List ℕ)) (s t : Stage) (spec source spec2 source2 : List ℕ) → AreOfStage words s spec source

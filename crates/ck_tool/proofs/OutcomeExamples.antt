@@ -15,7 +15,8 @@ use Rattle.spec_text.proofs.SectionExamples.{rex_end_file, empty_file}
 use Rattle.ck_chain.specs.Accepts.{of_sections}
 use Rattle.ck_chain.specs.Answers.{makes, tokens}
 use Rattle.ck_chain.specs.Outcome.{Outcome, output, refused}
-use Rattle.ck_chain.specs.Scanning.{bad_token, printed}
+use Rattle.ck_chain.specs.Scanning.{bad_token}
+use Rattle.ck_chain.specs.InOrder as printed
 use Rattle.ck_chain.specs.declared.stage.Stage.TheVariants.{Tokens as of_tokens, Derive as of_derive}
 use Rattle.ck_chain.proofs.Examples.{accepts_none, tokens_need_none, derivation_needs_grammar}
 use Rattle.ck_tool.specs.Ran.{Sunk, Kept, FaultsRose, WritesOnlyDone, Gained, GainedPart, Answers, UsageExactly, Tells, told, cut, Ran, done, refusing, memory, reading, writing, ended}
@@ -49,13 +50,13 @@ module _ (contents : List ℕ → Option (List ℕ)) where
   wants_end : contents (codes "s") ≡ Some rex_end_file → contents (codes "x") ≡ Some [] → Wanted contents words (output (codes "1:1 END" ++ 10 ∷ []))
   unfolding digits
   wants_end spec source = wanted_of_source contents words of_tokens _ _ are_tokens rex_end_file _ (rw spec refl) accepts_none (tokens_need_none _) [] _ (rw source refl)
-      (makes _ (tokens_need_none _) (omega arith) (tokens _ (printed [] (Tokens.end 0 0 refl))))
+      (makes _ (tokens_need_none _) (omega arith) (tokens _ (printed.told [] (Tokens.end 0 0 refl))))
 
   -- no rules and any byte: its place is bad
   wants_bad_token : contents (codes "s") ≡ Some rex_end_file → contents (codes "x") ≡ Some (codes "a")
       → Wanted contents words (refused (refusal.BadToken 1 1))
   wants_bad_token spec source = wanted_of_source contents words of_tokens _ _ are_tokens rex_end_file _ (rw spec refl) accepts_none (tokens_need_none _) (codes "a") _
-      (rw source refl) (makes _ (tokens_need_none _) (omega arith) (tokens _ (bad_token [] 0 (Tokens.bad 0 0 (omega arith) (λ i n m c. let is = c.is_rule in cc)))))
+      (rw source refl) (makes _ (tokens_need_none _) (omega arith) (tokens _ (printed.failed _ (bad_token [] 0 (Tokens.bad 0 0 (omega arith) (λ i n m c. let is = c.is_rule in cc))))))
 
   -- an empty specification is refused for its first line, whatever the source is
   wants_bad_spec : contents (codes "s") ≡ Some [] → Wanted contents words (refused (refusal.BadSpec 1 Section))

@@ -1,29 +1,10 @@
--- The parse says what deriving the source gives.
-use Rattle.std.proofs.Common.{ℕ, ◌≤◌, arith}
-use Rattle.ck_chain.proofs.Derived.{steps_inside, place_inside, refused_there, derived_text}
-use Rattle.ck_chain.proofs.HasRun.{has_run, comes_inside}
+-- The steps of the derivation in print, or the refusal.
+use Rattle.ck_chain.proofs.Derived.{steps_printed}
+use Rattle.ck_chain.proofs.InOrder.{refused_passed}
 use Rattle.ck_chain.proofs.derivation.derivation_text.Goals as goal
 
--- a place at the beginning
-at_begin : (n : ℕ) → 0 ≤ n
-at_begin n = omega arith
+pub returns-in_err-steps : goal.returns-in_err-steps
+returns-in_err-steps c = refused_passed _ _ _ _ _ c.from_residual.ensures.1 c.in_err-steps.ensures
 
-pub steps_text-requires : goal.steps_text-requires
-steps_text-requires c =
-    let (tokens, ending, comes) = has_run _ _ c.requires.scans _ c.known_bytes.ensures 0 0 c.requires.scans.some (at_begin _) in
-    rw c.as_slice.ensures.value (steps_inside _ _ tokens ending _ (comes_inside _ _ 0 0 tokens ending (at_begin _) comes) (c.in-Ok.ensures tokens ending comes))
-
-pub wrong_place-requires-clause-place : goal.wrong_place-requires-clause-place
-wrong_place-requires-clause-place c =
-    let (tokens, ending, comes) = has_run _ _ c.requires.scans _ c.known_bytes.ensures 0 0 c.requires.scans.some (at_begin _) in
-    place_inside _ _ tokens ending _ (comes_inside _ _ 0 0 tokens ending (at_begin _) comes) (c.in-Err.ensures tokens ending comes)
-
-pub returns-in_ok-text-in-Ok : goal.returns-in_ok-text-in-Ok
-returns-in_ok-text-in-Ok c =
-    let (tokens, ending, comes) = has_run _ _ c.requires.scans _ c.known_bytes.ensures 0 0 c.requires.scans.some (at_begin _) in
-    derived_text _ _ _ tokens ending _ _ comes (c.in-Ok.ensures tokens ending comes) (rw c.as_slice.ensures.value at c.in_ok-text-in-Ok.ensures)
-
-pub returns-in-Err : goal.returns-in-Err
-returns-in-Err c =
-    let (tokens, ending, comes) = has_run _ _ c.requires.scans _ c.known_bytes.ensures 0 0 c.requires.scans.some (at_begin _) in
-    rw c.wrong_place.ensures (refused_there _ _ _ tokens ending _ comes (c.in-Err.ensures tokens ending comes))
+pub returns : goal.returns
+returns c = steps_printed _ _ _ _ _ c.in_ok-steps.ensures (rw c.as_slice.ensures.value at c.in_ok-text.ensures)

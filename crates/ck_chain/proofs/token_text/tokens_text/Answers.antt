@@ -2,7 +2,8 @@ use Rattle.std.proofs.Common.{◌++◌, map, ap, ◌∙◌, arith}
 use Rattle.std.proofs.lemmas.List.{length-map}
 use Rattle.std.proofs.lemmas.Option.{slice_get_within}
 use Rattle.rex_model.specs.RuleMeaning.{rule_of}
-use Rattle.ck_chain.specs.Scanning.{bad_token, printed}
+use Rattle.ck_chain.specs.InOrder.{told, failed}
+use Rattle.ck_chain.specs.Scanning.{bad_token}
 use Rattle.ck_chain.proofs.PrintedLine.{name_of_token, token_line_here, end_line_here}
 use Rattle.ck_chain.proofs.Walk.{token_inside, skip_inside, gives_token, gives_none, gives_end, gives_bad, takes, passes, finishes, stops}
 use Rattle.ck_chain.proofs.token_text.tokens_text.Goals as goal
@@ -30,14 +31,14 @@ returns-in-End c =
     let gives = gives_end _ _ _ _ c.loop-rule.invariant.0.within (c.in-End.ensures _ c.requires.scans.gives) in
     let line = end_line_here _ _ c.loop-rule.invariant.0 gives.0 in
     let (tokens, run, text) = finishes _ _ _ _ _ _ c.loop-rule.invariant.1 gives.1 in
-    rw (c.in_ok-push_end-in-End.ensures, line, text) (printed tokens run)
+    rw (c.in_ok-push_end-in-End.ensures, line, text) (told tokens run)
 
 pub returns-in-BadToken : goal.returns-in-BadToken
 returns-in-BadToken c =
     let bad = gives_bad _ _ _ _ _ (c.in-BadToken.ensures _ c.requires.scans.gives) in
     let (tokens, run) = stops _ _ _ _ _ _ c.loop-rule.invariant.1 bad in
     let is = c.loop-rule.invariant.0 in
-    rw (is.line, is.column) (bad_token tokens c.loop-rule.place.at run)
+    rw (is.line, is.column) (failed _ (bad_token tokens c.loop-rule.place.at run))
 
 pub loop-rule-smaller-in-Token : goal.loop-rule-smaller-in-Token
 loop-rule-smaller-in-Token c =
