@@ -1,5 +1,5 @@
 -- A name is found at its place among names of which none is there twice.
-use Rattle.std.proofs.Common.{◌≡◌, ℕ, ◌<◌, ◌↔◌, Bool, true, false, true≢false, refl, sym, ap, ◌∙◌, arith, List, [], ◌∷◌, length, get_or, Option, Some, None, IsNone, Contains, slice_get, Vec, Global}
+use Rattle.std.proofs.Common.{◌≡◌, ℕ, ◌<◌, ◌↔◌, Bool, true, false, true≢false, refl, sym, ap, ◌∙◌, arith, List, [], ◌∷◌, length, get_or, Option, Some, None, IsNone, IsTrue, is_some, Contains, slice_get, Vec, Global}
 use Rattle.std.specs.List.{position, position_or_len}
 use Rattle.std.specs.Str.{bytes_eq}
 use Rattle.std.proofs.lemmas.Bool.{lt-ltb, false_from_ne_true}
@@ -27,6 +27,12 @@ module _ (names : List (List ℕ)) (name : List ℕ) where
 
   pub contained_at : (n : ℕ) → slice_get names n ≡ Some name → Contains names name
   contained_at n there = (n, slice_get_within names n name there, get_or_from_slice_get names n name name there)
+
+  -- where a place is found the name is there, and else it isn't
+  pub is_there : (found : Option ℕ) → ((n : ℕ) → (found ≡ Some n) ↔ (slice_get names n ≡ Some name))
+      → (IsNone found ↔ (Contains names name → ⊥)) → IsTrue (is_some found) ↔ Contains names name
+  is_there None at absent = (λ is. cc, λ there. absurd (absent.0 refl there))
+  is_there (Some n) at absent = (λ is. contained_at n ((at n).0 refl), λ there. refl)
 
   -- where the bytes pass, the name is
   pub there_where_equal : (n : ℕ) → n < length names → bytes_eq name (get_or names n []) ≡ true → slice_get names n ≡ Some name

@@ -1,5 +1,5 @@
 // Names numbered by their first occurrence.
-ghost use Rattle.std.specs.Prelude.{◌≡◌, ℕ, ◌+◌, ◌^◌, ◌<◌, ◌↔◌, [], ◌∷◌, length, IfOk, OnOk, OnErr, IsNone, Contains, slice_get};
+ghost use Rattle.std.specs.Prelude.{◌≡◌, ℕ, ◌+◌, ◌^◌, ◌<◌, ◌↔◌, [], ◌∷◌, length, IfOk, OnOk, OnErr, IsNone, IsTrue, Contains, slice_get};
 ghost use Rattle.ck_base.specs.Numbered.{AreApart, met, number_of};
 
 use indexmap::IndexSet;
@@ -60,6 +60,13 @@ impl Names {
     {
         let index = self.names.get_index_of(name)?;
         Some(index as u32)
+    }
+
+    /// Whether the name is there.
+    pub fn has(&self, name: &[u8]) -> bool
+        ensures { IsTrue result ↔ Contains self.now name.now }
+    {
+        self.find(name).is_some()
     }
 
     /// The name with this number.

@@ -1,7 +1,8 @@
 // Relations between the numbers below a size: pairs, the transitive closure, a cycle, an order.
 ghost use Rattle.std.specs.Prelude.{◌≡◌, ℕ, ◌<◌, ◌≤◌, ◌↔◌, length, IsTrue, IfOk, MatchOption, Contains};
 ghost use Rattle.ck_base.specs.BitSet.{BitSet, Has, IsEmpty};
-ghost use Rattle.ck_base.specs.Pairs.{Pairs, Relates, row_of, IsClosure, AddsPair, JoinsIf, GoesThrough, IsClosed, HasNoCycle, IsFirstCycle, IsLeastFirst, IsBlocked, BlocksBy};
+ghost use Rattle.ck_base.specs.Pairs.{Pairs, Relates, row_of, IsClosure, AddsPair, IsClosed, HasNoCycle, IsFirstCycle, IsLeastFirst};
+ghost use Rattle.ck_base.specs.within.PairSteps.{JoinsIf, GoesThrough, IsBlocked, BlocksBy};
 
 use crate::bits::Bits;
 use std::alloc::Global;
@@ -116,7 +117,8 @@ impl Relation {
         requires { blocked.old.size ≡ self.now.size }
         ensures size { blocked.new.size ≡ blocked.old.size }
         ensures only { (b : ℕ) → Has blocked.new b → IsBlocked self.now placed.now b }
-        ensures all { (a b : ℕ) → (Has placed.now a → ⊥) → Relates self.now a b → Has blocked.new b }
+        ensures all { (a b : ℕ) → (Has placed.now a → ⊥) → Relates self.now a b
+            → Has blocked.new b }
     {
         blocked.clear();
         for a in 0..self.size {
@@ -150,7 +152,8 @@ impl Relation {
 fn join_where(rows: &mut [Bits], k: u32, row: &Bits)
     requires { (i : ℕ) → Has (row_of rows.old i) k → (row_of rows.old i).size ≡ row.now.size }
     ensures length_kept { length rows.new ≡ length rows.old }
-    ensures joined { (i : ℕ) → i < length rows.old → JoinsIf (row_of rows.old i) (row_of rows.new i) k row.now }
+    ensures joined { (i : ℕ) → i < length rows.old
+        → JoinsIf (row_of rows.old i) (row_of rows.new i) k row.now }
 {
     for each in rows.iter_mut() {
         if each.has(k) {

@@ -1,0 +1,2 @@
+-- Words that only the contracts within this crate cite.
+pub mod PairSteps
