@@ -12,7 +12,7 @@ use Rattle.ck_chain.proofs.AcceptedOrRefused.{one_refusal, refused_or_accepted, 
 use Rattle.ck_chain.proofs.OneAnswer.{one_answer, one_missing}
 
 -- each stage has a name of its own
-stage_named : List ℕ → Stage
+abbrev stage_named : List ℕ → Stage
 stage_named name =
     if nat_eq (get_or name 0 0) 100 then stages.Derive else if nat_eq (get_or name 1 0) 111 then stages.Tokens else stages.Tree
 
