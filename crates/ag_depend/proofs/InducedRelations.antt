@@ -1,5 +1,5 @@
 -- The relations that were made are IDS and IDP.
-use Rattle.std.proofs.Common.{◌≡◌, ℕ, ◌+◌, ◌<◌, ◌≤◌, ◌↔◌, ◌⊎◌, inl, inr, ◌∷◌, ◌++◌, [], List, length, Option, Some, take, get_or, refl, sym, ◌∙◌, subst, ap, arith, length-append}
+use Rattle.std.proofs.Common.{◌≡◌, ℕ, ◌+◌, ◌<◌, ◌≤◌, ◌↔◌, inl, inr, ◌∷◌, ◌++◌, [], List, length, Some, take, refl, sym, ◌∙◌, subst, ap, arith, length-append}
 use Rattle.std.specs.Prelude.{slice_get, Contains}
 use Rattle.std.proofs.lemmas.Bool.{cases_eq, cases_lt}
 use Rattle.std.proofs.lemmas.List.{get_or_past}
@@ -8,7 +8,7 @@ use Rattle.std.proofs.lemmas.Option.{slice_get-get_or, slice_get_within, get_or_
 use Rattle.ck_base.specs.Pairs.{Pairs, Relates, Closure, HasNoCycle, one}
 use Rattle.ast_types.specs.TypeTable.{family_at}
 use Rattle.ck_base.proofs.Representing.{element_at, element_of_first, element_of_second}
-use Rattle.ag_model.specs.Attribution.{AttributeGrammar, Occurrence, itself, nth, FamilyAt, attributes_of, family_of, children_of}
+use Rattle.ag_model.specs.Attribution.{AttributeGrammar, Occurrence, itself, nth, FamilyAt, attributes_of, children_of}
 use Rattle.ag_model.specs.Complete.{IsComplete, IsPlace}
 use Rattle.ag_model.specs.Induced.{Idp, Ids}
 use Rattle.ag_model.specs.Numbers.{size_of, first_number, number_of, place_count}
@@ -19,14 +19,14 @@ use Rattle.ag_model.proofs.IdsJoin.{ids_closed}
 use Rattle.ag_model.proofs.PlacesNumbered.{ends_within, few_numbers, one_place}
 use Rattle.ag_depend.specs.declared.shapes.Block.{Block}
 use Rattle.ag_depend.specs.declared.shapes.Shape.{Shape}
-use Rattle.ag_depend.specs.Blocks.{block_at, IsShapeOf, AreShapes}
+use Rattle.ag_depend.specs.Blocks.{AreShapes}
 use Rattle.ag_depend.specs.Promise.{AreIds, AreIdps, SaysIdsCycle, Names}
 use Rattle.ag_depend.specs.declared.fault.OrderFault.{OrderFault}
 use Rattle.ag_depend.specs.declared.fault.OrderFault.TheVariants.{NotOrdered, NoMemory}
-use Rattle.ag_depend.specs.within.Rows.{AreEmpty, AreWorks, HaveNoCycle, IsFirstIn}
-use Rattle.ag_depend.specs.Shapes.{pairs_of, Needs, directly, lifted, IsLifted, IsWork, AreInside, AreAllInside, IsSound, NumberedIdp, NumberedIds}
+use Rattle.ag_depend.specs.within.Rows.{AreWorks, HaveNoCycle, IsFirstIn}
+use Rattle.ag_depend.specs.Shapes.{pairs_of, Needs, directly, lifted, IsWork, AreAllInside, IsSound, NumberedIdp, NumberedIds}
 use Rattle.ag_depend.specs.Shapes.NumberedIdp.{direct, lift}
-use Rattle.ag_depend.proofs.NumbersAreIds.{IdpAt, IdsAt, idp_of_numbers, ids_of_numbers, numbers_of_idp, numbers_of_ids}
+use Rattle.ag_depend.proofs.NumbersAreIds.{IdpAt, idp_of_numbers, ids_of_numbers, numbers_of_idp, numbers_of_ids}
 use Rattle.ag_depend.proofs.StepsSoFar.{need_of}
 
 -- the front of what stands before a rest

@@ -1,15 +1,14 @@
 -- Which equation a type has, and what it uses, tried where the nearest wrong reading differs.
-use Rattle.std.proofs.Common.{◌≡◌, ℕ, ◌<◌, ◌⊎◌, inl, inr, true, false, List, [], ◌∷◌, Some, None, refl, sym, ◌∙◌, ap, arith, codes}
+use Rattle.std.proofs.Common.{◌≡◌, ℕ, ◌⊎◌, inl, inr, true, false, List, [], ◌∷◌, Some, None, refl, sym, ◌∙◌, ap, arith, codes}
 use Rattle.std.specs.Prelude.{pos, Contains}
 use Rattle.value_store.specs.declared.value.ValType.{ValType}
 use Rattle.value_store.specs.declared.value.ValType.TheVariants as ty
 use Rattle.ast_types.specs.TypeTable.{TypeTable}
-use Rattle.expr_lang.specs.Expression.{Expression, number, var}
+use Rattle.expr_lang.specs.Expression.{number, var}
 use Rattle.ag_model.specs.Attribution.{AttributeGrammar, PureEquation}
 use Rattle.ag_model.specs.Coverage.{Holder, a_type, a_family, RightSide, behind, IsNearest, own, from_behind, IsCopy, IsCovered, declared, copied}
 use Rattle.ag_model.specs.Typed.{IsTyped}
 use Rattle.ag_model.specs.declared.attribution.Attribute.{Attribute}
-use Rattle.ag_model.specs.declared.attribution.Place.{Place}
 use Rattle.ag_model.specs.declared.attribution.Place.TheVariants.{Own, Child}
 
 -- type 0, which extends no type, and type 1, which extends it; both have a child of their own family, whose

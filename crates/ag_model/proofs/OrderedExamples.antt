@@ -1,10 +1,10 @@
 -- Dependencies, their cycles and their reports, tried where the nearest wrong reading differs.
-use Rattle.std.proofs.Common.{◌≡◌, ℕ, ◌<◌, ◌⊎◌, inl, inr, true, false, List, [], ◌∷◌, Some, None, refl, arith, codes}
+use Rattle.std.proofs.Common.{◌≡◌, ℕ, inl, inr, true, false, List, [], ◌∷◌, Some, None, refl, arith, codes}
 use Rattle.value_store.specs.declared.value.ValType.TheVariants as ty
 use Rattle.ck_base.specs.Pairs.Closure.{one as once}
 use Rattle.ag_model.specs.Attribution.{AttributeGrammar, PureEquation, itself, nth, Stands}
 use Rattle.ag_model.specs.Complete.{IsGiven}
-use Rattle.ag_model.specs.Induced.{Dp, Idp, Joined, Ids}
+use Rattle.ag_model.specs.Induced.{Ids}
 use Rattle.ag_model.specs.Induced.Idp.{direct, lifted}
 use Rattle.ag_model.specs.Induced.Joined.{one, more}
 use Rattle.ag_model.specs.Induced.Ids.{joined}
@@ -14,7 +14,7 @@ use Rattle.ag_model.specs.declared.attribution.Attribute.{Attribute}
 use Rattle.ag_model.specs.declared.attribution.Place.{Place}
 use Rattle.ag_model.specs.declared.attribution.Place.TheVariants.{Own, Child}
 use Rattle.ag_model.specs.declared.plan.PlanStep.{PlanStep}
-use Rattle.ag_model.specs.declared.plan.PlanStep.TheVariants.{Evaluate, Visit, Leave}
+use Rattle.ag_model.specs.declared.plan.PlanStep.TheVariants.{Visit}
 
 -- s, which is synthesized, and i, which is inherited
 abbrev two : List Attribute

@@ -1,13 +1,12 @@
 -- A place in a type has a number of its own.
-use Rattle.std.proofs.Common.{◌≡◌, ◌≢◌, ℕ, zero, suc, ◌+◌, ◌-◌, ◌*◌, ◌<◌, ◌≤◌, ◌⊎◌, inl, inr, List, [], ◌∷◌, length, Option, Some, None, map, take, refl, sym, ◌∙◌, subst, ap, arith}
-use Rattle.std.specs.Prelude.{slice_get, sum}
+use Rattle.std.proofs.Common.{◌≡◌, ℕ, zero, suc, ◌+◌, ◌*◌, ◌<◌, ◌≤◌, ◌⊎◌, inl, inr, List, [], ◌∷◌, length, Option, Some, None, refl, sym, ◌∙◌, subst, ap, arith}
+use Rattle.std.specs.Prelude.{slice_get}
 use Rattle.std.proofs.lemmas.Bool.{cases_eq, cases_lt}
 use Rattle.std.proofs.lemmas.Option.{slice_get_within}
 use Rattle.ck_base.proofs.Representing.{element_at}
-use Rattle.ag_model.specs.declared.attribution.Attribute.{Attribute}
 use Rattle.ag_model.specs.declared.attribution.Place.{Place}
 use Rattle.ag_model.specs.declared.attribution.Place.TheVariants.{Own, Child}
-use Rattle.ag_model.specs.Attribution.{AttributeGrammar, Occurrence, itself, nth, at, Stands, FamilyAt, attributes_of, attributes_at, family_of, children_of}
+use Rattle.ag_model.specs.Attribution.{AttributeGrammar, Occurrence, itself, nth, at, FamilyAt, attributes_of, attributes_at, family_of, children_of}
 use Rattle.ag_model.specs.Complete.{IsComplete, IsPlace}
 use Rattle.ag_model.specs.Numbers.{size_of, sizes_before, first_number, number_of, place_count}
 use Rattle.ag_model.proofs.TypesInRange.{few_children}

@@ -1,11 +1,11 @@
 -- The families and the children of an attribution's types are within the limits.
-use Rattle.std.proofs.Common.{◌≡◌, ℕ, ◌<◌, ◌≤◌, List, [], length, Option, Some, None, refl, sym, subst, arith}
+use Rattle.std.proofs.Common.{◌≡◌, ℕ, ◌<◌, ◌≤◌, List, length, Option, Some, None, refl, sym, subst, arith}
 use Rattle.std.specs.Prelude.{slice_get, All}
 use Rattle.std.proofs.lemmas.List.Elements.{All-get_or}
 use Rattle.std.proofs.lemmas.Option.{slice_get_within, get_or_from_slice_get}
-use Rattle.ast_types.specs.FitTypes.{AreTypes, HasFitItems}
+use Rattle.ast_types.specs.FitTypes.{HasFitItems}
 use Rattle.ast_types.specs.Items.{child_families}
-use Rattle.ast_types.specs.TypeTable.{NodeType, TypeTable, family_at, type_in}
+use Rattle.ast_types.specs.TypeTable.{NodeType, family_at, type_in}
 use Rattle.ag_model.specs.Attribution.{AttributeGrammar, family_of, children_of}
 use Rattle.ag_model.specs.Complete.{IsComplete}
 

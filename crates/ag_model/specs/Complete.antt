@@ -1,7 +1,7 @@
 -- Attributions as their reader gives them.
-use Rattle.std.specs.Prelude.{◌≡◌, ℕ, ◌<◌, ◌≤◌, Bool, true, false, List, length, Some, slice_get, Contains}
+use Rattle.std.specs.Prelude.{◌≡◌, ℕ, ◌<◌, ◌≤◌, Bool, true, false, length, Some, Contains}
 use Rattle.ast_types.specs.FitTypes.{AreTypes}
-use Rattle.ag_model.specs.Attribution.{AttributeGrammar, PureEquation, attributes_of, children_of, equations_of, family_of, IsEquation, attribute_at}
+use Rattle.ag_model.specs.Attribution.{AttributeGrammar, PureEquation, attributes_of, equations_of, IsEquation, attribute_at}
 use Rattle.ag_model.specs.declared.attribution.Attribute.{Attribute}
 use Rattle.ag_model.specs.declared.attribution.Place.{Place}
 use Rattle.ag_model.specs.declared.attribution.Place.TheVariants.{Own, Child}

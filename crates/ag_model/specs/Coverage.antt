@@ -1,7 +1,7 @@
 -- Which equation a type has for a place: the type's own, else the nearest base's, else the family's; where none of
 -- these is declared, an inherited attribute of a child is a copy.
 use Rattle.std.specs.Prelude.{◌≡◌, ℕ, false, List, [], ◌∷◌, Option, Some, None}
-use Rattle.ast_types.specs.TypeTable.{NodeType, TypeTable, type_at}
+use Rattle.ast_types.specs.TypeTable.{TypeTable, type_at}
 use Rattle.expr_lang.specs.Expression.{Expression, var}
 use Rattle.ag_model.specs.Attribution.{AttributeGrammar, PureEquation, IsEquation, attribute_at}
 use Rattle.ag_model.specs.Solution.{expression_at}

@@ -8,7 +8,7 @@ use Rattle.expr_lang.specs.Expression.{Expression}
 use Rattle.expr_lang.specs.Occurring.{vars_in}
 use Rattle.expr_lang.specs.Typing.{Context, HasType}
 use Rattle.value_store.specs.PlainTypes.{IsPlain}
-use Rattle.ag_model.specs.Attribution.{AttributeGrammar, PureEquation, IsEquation, attribute_at, attributes_of, grammar_of}
+use Rattle.ag_model.specs.Attribution.{AttributeGrammar, PureEquation, IsEquation, attribute_at, grammar_of}
 use Rattle.ag_model.specs.Complete.{IsComplete}
 use Rattle.ag_model.specs.Solution.{expression_at, expressions_of}
 use Rattle.ag_model.specs.declared.attribution.Attribute.{Attribute}

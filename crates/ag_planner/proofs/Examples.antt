@@ -1,5 +1,5 @@
 -- What is promised, tried where the nearest wrong reading differs.
-use Rattle.std.proofs.Common.{◌≡◌, ℕ, suc, Bool, true, false, List, [], ◌∷◌, Some, None, refl, arith}
+use Rattle.std.proofs.Common.{◌≡◌, ℕ, suc, Bool, false, [], ◌∷◌, Some, None, refl, arith}
 use Rattle.std.specs.Prelude.{slice_get}
 use Rattle.ag_model.specs.Attribution.{AttributeGrammar}
 use Rattle.ag_model.specs.Induced.{Ids}

@@ -1,5 +1,5 @@
 -- Each step that the maker takes keeps what was made.
-use Rattle.std.proofs.Common.{◌≡◌, ◌≢◌, ℕ, zero, suc, ◌+◌, ◌-◌, ◌*◌, ◌/◌, ◌<◌, ◌≤◌, ◌⊎◌, inl, inr, Bool, true, false, List, [], ◌∷◌, ◌++◌, length, Option, Some, None, Vec, take, set, get_or, refl, sym, ◌∙◌, subst, ap, arith, length-set, get_or-set_other, get_or-set_same}
+use Rattle.std.proofs.Common.{◌≡◌, ℕ, ◌+◌, ◌-◌, ◌*◌, ◌<◌, ◌≤◌, ◌⊎◌, inl, inr, true, false, List, [], ◌∷◌, ◌++◌, length, Option, Some, None, Vec, take, refl, sym, ◌∙◌, subst, ap, arith, length-set, get_or-set_other, get_or-set_same}
 use Rattle.std.specs.Prelude.{slice_get, slice_index, slice_set, Contains}
 use Rattle.std.specs.Global.{Global}
 use Rattle.std.proofs.lemmas.Bool.{cases_eq, eq-eqb, ne_eqb}
@@ -8,23 +8,21 @@ use Rattle.std.proofs.lemmas.List.Elements.{Contains-push, Contains-push_cases, 
 use Rattle.std.proofs.lemmas.Option.{slice_get_within, get_or_from_slice_get}
 use Rattle.ck_base.specs.Pairs.{Closure}
 use Rattle.ag_model.proofs.TypesInRange.{family_there, child_there}
-use Rattle.ag_model.specs.Attribution.{AttributeGrammar, PureEquation, attributes_at, attributes_of, kinds_of, family_of, children_of, equations_of}
-use Rattle.ag_model.specs.Complete.{IsComplete, IsPlace, IsGiven, is_given}
+use Rattle.ag_model.specs.Attribution.{PureEquation, attributes_at, attributes_of, kinds_of, family_of, children_of}
+use Rattle.ag_model.specs.Complete.{IsGiven}
 use Rattle.ag_model.specs.Ordered.{Edp}
 use Rattle.ag_model.specs.Parts.{is_odd}
-use Rattle.ag_model.specs.Plans.{is_leave, is_visit, one_if, counted, InSet, visit_count, TakesIn, Gives, SetsFit, sets_at}
-use Rattle.ag_model.specs.declared.attribution.Attribute.{Attribute}
+use Rattle.ag_model.specs.Plans.{is_leave, is_visit, one_if, counted, visit_count, TakesIn, Gives, sets_at}
 use Rattle.ag_model.specs.declared.attribution.Place.{Place}
 use Rattle.ag_model.specs.declared.attribution.Place.TheVariants.{Own, Child}
 use Rattle.ag_model.specs.declared.plan.PlanStep.{PlanStep}
 use Rattle.ag_model.specs.declared.plan.PlanStep.TheVariants.{Evaluate, Visit, Leave}
 use Rattle.ag_planner.specs.within.Made.{IsMade, IsCounted, DoneBefore}
-use Rattle.ag_planner.specs.within.Sets.{AreSets, AreParts}
 use Rattle.ag_planner.specs.within.Tasks.{IsReady, IsSoFar, IsOrderOf, g_of, set_plan, own_sets, below, child_total, own_equations}
 use Rattle.ag_planner.specs.declared.maker.Task.{Task}
 use Rattle.ag_planner.specs.declared.maker.Maker.{Maker}
 use Rattle.ag_planner.proofs.OrderOfEdp.{HasParts, edp_order, kind_is, same_kind}
-use Rattle.ag_planner.proofs.PlanMade.{IsOrder, counted_push, may_leave, may_visit, may_evaluate, may_take, may_give, made_as}
+use Rattle.ag_planner.proofs.PlanMade.{IsOrder, counted_push, may_leave, may_visit, may_evaluate, made_as}
 use Rattle.ag_planner.proofs.SetsOfFamily.{has_parts}
 use Rattle.ag_planner.proofs.Turns.{even_part, odd_part}
 

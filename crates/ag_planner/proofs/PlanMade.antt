@@ -1,18 +1,17 @@
 -- A plan is made along an order of a type's places.
-use Rattle.std.proofs.Common.{◌≡◌, ◌≢◌, ℕ, zero, suc, ◌+◌, ◌-◌, ◌*◌, ◌<◌, ◌≤◌, ◌⊎◌, inl, inr, Bool, true, false, List, [], ◌∷◌, ◌++◌, length, map, Option, Some, None, refl, sym, ◌∙◌, subst, ap, arith}
+use Rattle.std.proofs.Common.{◌≡◌, ℕ, suc, ◌+◌, ◌-◌, ◌<◌, ◌≤◌, ◌⊎◌, inl, inr, Bool, List, [], ◌∷◌, ◌++◌, length, Some, None, refl, sym, ◌∙◌, subst, ap, arith}
 use Rattle.std.specs.Prelude.{slice_get, Contains}
-use Rattle.std.proofs.lemmas.Bool.{cases_eq, cases_lt, eqb-true, eq-eqb, ne_eqb}
 use Rattle.std.proofs.lemmas.Option.{slice_get_within, slice_get_cases}
 use Rattle.ag_model.specs.declared.attribution.Place.{Place}
 use Rattle.ag_model.specs.declared.attribution.Place.TheVariants.{Own, Child}
 use Rattle.ag_model.specs.Attribution.{PureEquation}
 use Rattle.ag_model.specs.declared.plan.PlanStep.{PlanStep}
 use Rattle.ag_model.specs.declared.plan.PlanStep.TheVariants.{Evaluate, Visit, Leave}
-use Rattle.ag_model.specs.Plans.{is_leave, is_visit, one_if, counted, InSet, visit_count, TakesIn, Gives, Evaluates, EvaluatedBefore, AtHand, TypeFits}
-use Rattle.ag_model.proofs.Counted.{counted_more, counted_le, counted_before, Passes, counted_at}
-use Rattle.ag_planner.proofs.Turns.{is_visit_step, is_leave_step}
+use Rattle.ag_model.specs.Plans.{is_leave, is_visit, one_if, counted, visit_count, TakesIn, Gives, EvaluatedBefore, AtHand, TypeFits}
+use Rattle.ag_model.proofs.Counted.{counted_at}
+use Rattle.ag_planner.proofs.Turns.{is_visit_step}
 use Rattle.ag_planner.specs.within.Made.{SoFar, IsMade}
-use Rattle.ag_planner.proofs.PlanSoFar.{get_pushed, old_stays, new_stands, counted_front, evaluated_pushed, at_hand_pushed, Allows, pushed}
+use Rattle.ag_planner.proofs.PlanSoFar.{get_pushed, new_stands, evaluated_pushed, Allows, pushed}
 
 -- the last step counts too
 pub counted_push : (p : PlanStep → Bool) (ss : List PlanStep) (s : PlanStep) → counted p (ss ++ s ∷ []) (length (ss ++ s ∷ [])) ≡ counted p ss (length ss) + one_if (p s)

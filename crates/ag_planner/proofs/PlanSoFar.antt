@@ -1,17 +1,13 @@
 -- The steps of a plan are made one after the other, each allowed by those before it.
-use Rattle.std.proofs.Common.{◌≡◌, ◌≢◌, ℕ, zero, suc, ◌+◌, ◌-◌, ◌*◌, ◌<◌, ◌≤◌, ◌⊎◌, inl, inr, Bool, true, false, List, [], ◌∷◌, ◌++◌, length, map, Option, Some, None, refl, sym, ◌∙◌, subst, ap, arith}
+use Rattle.std.proofs.Common.{◌≡◌, ℕ, zero, suc, ◌+◌, ◌<◌, ◌≤◌, ◌⊎◌, inl, inr, Bool, List, [], ◌∷◌, ◌++◌, length, Some, None, refl, sym, ◌∙◌, subst, ap, arith}
 use Rattle.std.specs.Prelude.{slice_get, Contains}
-use Rattle.std.proofs.lemmas.Bool.{cases_eq, cases_lt, eqb-true, eq-eqb, ne_eqb}
-use Rattle.std.proofs.lemmas.Option.{slice_get_within, slice_get_cases}
 use Rattle.ag_model.specs.declared.attribution.Place.{Place}
 use Rattle.ag_model.specs.declared.attribution.Place.TheVariants.{Own, Child}
 use Rattle.ag_model.specs.Attribution.{PureEquation}
 use Rattle.ag_model.specs.declared.plan.PlanStep.{PlanStep}
 use Rattle.ag_model.specs.declared.plan.PlanStep.TheVariants.{Evaluate, Visit, Leave}
-use Rattle.ag_model.specs.Plans.{is_leave, is_visit, one_if, counted, InSet, visit_count, TakesIn, Gives, Evaluates, EvaluatedBefore, AtHand, TypeFits}
+use Rattle.ag_model.specs.Plans.{is_leave, is_visit, counted, TakesIn, Gives, EvaluatedBefore, AtHand}
 use Rattle.ag_planner.specs.within.Made.{SoFar}
-use Rattle.ag_model.proofs.Counted.{counted_more, counted_le, counted_before, Passes, counted_at}
-use Rattle.ag_planner.proofs.Turns.{is_visit_step, is_leave_step}
 
 -- a step at a place of a list with one more step
 pub get_pushed : (ss : List PlanStep) (s : PlanStep) (i : ℕ) (r : PlanStep) → slice_get (ss ++ s ∷ []) i ≡ Some r

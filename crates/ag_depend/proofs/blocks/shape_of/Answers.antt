@@ -1,13 +1,13 @@
 -- Blocks and uses are the type in numbers.
-use Rattle.std.proofs.Common.{◌≡◌, ℕ, ◌+◌, ◌<◌, ◌-◌, ◌∷◌, [], List, map, sym, ◌∙◌, subst, ap, arith, length, Some, refl}
-use Rattle.std.specs.Prelude.{slice_get, Contains}
+use Rattle.std.proofs.Common.{◌≡◌, ℕ, ◌+◌, ◌-◌, List, sym, ◌∙◌, subst, ap, arith, length, Some, refl}
+use Rattle.std.specs.Prelude.{slice_get}
 use Rattle.std.proofs.lemmas.List.{length-map}
 use Rattle.ck_base.proofs.Representing.{element_at}
-use Rattle.ag_model.specs.Attribution.{AttributeGrammar, PureEquation, grammar_of, equation_of, equations_of, children_of, nth}
+use Rattle.ag_model.specs.Attribution.{AttributeGrammar, grammar_of, equation_of, equations_of, children_of}
 use Rattle.ag_model.specs.Numbers.{place_count}
 use Rattle.ag_model.proofs.PlacesNumbered.{few_numbers}
 use Rattle.ag_depend.specs.declared.shapes.Block.{Block}
-use Rattle.ag_depend.specs.Blocks.{AreAllBlocks, HaveNumbers, AreUses}
+use Rattle.ag_depend.specs.Blocks.{AreAllBlocks, AreUses}
 use Rattle.ag_depend.proofs.ShapeOfType.{have_numbers, last_block, is_shape}
 use Rattle.ag_depend.proofs.blocks.shape_of.Goals as goal
 

@@ -1,5 +1,5 @@
 -- A family has few sets.
-use Rattle.std.proofs.Common.{◌≡◌, [], ◌<◌, ◌≤◌, ap, sym, ◌∙◌, arith, length, map, Vec, ℕ}
+use Rattle.std.proofs.Common.{◌≡◌, [], ap, sym, ◌∙◌, arith, length, Vec, ℕ}
 use Rattle.std.specs.Global.{Global}
 use Rattle.std.proofs.lemmas.List.{length-map}
 use Rattle.ag_model.proofs.TypesInRange.{family_there}
