@@ -1,7 +1,7 @@
 -- How an `if` is read, and what stands in front of the operators.
 use Rattle.std.proofs.Common.{◌≡◌, ℕ, ◌+◌, ◌-◌, ◌<◌, ◌≤◌, max, List, ◌∷◌, codes, refl, sym, ap, ◌∙◌, arith}
 use Rattle.spec_text.specs.Lexemes.{Lexeme, word}
-use Rattle.spec_text.specs.Parts.{Fixed, NotFirst, NoReading, Reading}
+use Rattle.section_frame.specs.Parts.{Fixed, NotFirst, NoReading, Reading}
 use Rattle.expr_read.specs.Spoken.{Spoken, if_then, nesting}
 use Rattle.expr_read.specs.Notation.{IsSpoken, MayFollow}
 use Rattle.expr_read.specs.within.Wholes.{Whole, loosest, conditional, no_conditional, Conditional, IsRead, NoneRead}

@@ -4,7 +4,7 @@ use Rattle.std.proofs.lemmas.List.{take-append-drop, length-map, drop-map}
 use Rattle.std.proofs.lemmas.List.Elements.{All-drop}
 use Rattle.spec_text.specs.Lexemes.{Lexeme}
 use Rattle.spec_text.specs.Lines.{Line, said_by}
-use Rattle.spec_text.specs.Parts.{Reading, NoReading}
+use Rattle.section_frame.specs.Parts.{Reading, NoReading}
 use Rattle.spec_text.specs.Reading.{Placed}
 use Rattle.spec_text.specs.Seen.{seen}
 use Rattle.spec_text.specs.Spans.{Spells, span_of, spans_in, spans_of, IsLineOf}

@@ -2,7 +2,7 @@
 use Rattle.std.proofs.Common.{◌≡◌, ℕ, suc, ◌+◌, ◌<◌, ◌≤◌, max, List, ◌∷◌, length, codes, refl, ap, arith}
 use Rattle.spec_text.specs.Lexemes as lex
 use Rattle.spec_text.specs.Lexemes.{Lexeme, word, sign}
-use Rattle.spec_text.specs.Parts.{Part}
+use Rattle.section_frame.specs.Parts.{Part}
 use Rattle.expr_read.specs.declared.prefix.Prefix.{Prefix}
 use Rattle.expr_read.specs.declared.prefix.Prefix.TheVariants as prefix
 use Rattle.expr_read.specs.Spoken.{Spoken, SpokenList, number, truth, string, name, dollar, pair, negative, negated, binary, if_then, applied, grouped, nesting}

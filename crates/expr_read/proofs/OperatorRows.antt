@@ -2,7 +2,7 @@
 use Rattle.std.proofs.Common.{◌≡◌, ℕ, ◌-◌, ◌<◌, max, List, [], ◌∷◌, ◌++◌, map, codes, refl, sym, ap, ◌∙◌, arith}
 use Rattle.std.proofs.lemmas.List.{map-append}
 use Rattle.spec_text.specs.Lexemes.{Lexeme, sign}
-use Rattle.spec_text.specs.Parts.{Fixed}
+use Rattle.section_frame.specs.Parts.{Fixed}
 use Rattle.expr_read.specs.Spoken.{Spoken, SpokenList, no_spoken, and_spoken, nesting, deepest}
 use Rattle.expr_read.specs.declared.written.Written.{Written}
 use Rattle.expr_read.specs.Writing.{spoken_list, spoken_of}

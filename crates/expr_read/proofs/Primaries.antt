@@ -1,7 +1,7 @@
 -- How expressions without operators are read.
 use Rattle.std.proofs.Common.{◌≡◌, ℕ, ◌+◌, ◌-◌, ◌<◌, List, ◌∷◌, Some, codes, refl, sym, ap, arith}
 use Rattle.spec_text.specs.Lexemes.{Lexeme, sign}
-use Rattle.spec_text.specs.Parts.{Fixed, Name}
+use Rattle.section_frame.specs.Parts.{Fixed, Name}
 use Rattle.expr_read.specs.Spoken.{Spoken, SpokenList, applied, grouped, nesting, deepest}
 use Rattle.expr_read.specs.Notation.{IsName}
 use Rattle.expr_read.specs.within.Wholes.{leaf_of, Whole, primary, a_leaf, a_group, named, Named, called, Inside, Grouping, IsRead, NoneRead, AreRead}

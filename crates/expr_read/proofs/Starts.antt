@@ -5,7 +5,7 @@ use Rattle.expr_lang.specs.declared.expr.Op.{Op}
 use Rattle.expr_lang.specs.declared.expr.Op.TheVariants as op
 use Rattle.spec_text.specs.Lexemes as lex
 use Rattle.spec_text.specs.Lexemes.{Lexeme, word, sign}
-use Rattle.spec_text.specs.Parts.{NotFirst}
+use Rattle.section_frame.specs.Parts.{NotFirst}
 use Rattle.expr_read.specs.declared.prefix.Prefix.{Prefix}
 use Rattle.expr_read.specs.declared.prefix.Prefix.TheVariants as prefix
 use Rattle.expr_read.specs.Spoken.{Spoken, SpokenList}

@@ -6,7 +6,7 @@ use Rattle.std.proofs.lemmas.Option.{same_Some}
 use Rattle.std.proofs.lemmas.Slice.Eq.{bytes_eq-Decides}
 use Rattle.expr_lang.specs.declared.expr.Op.{Op}
 use Rattle.spec_text.specs.Lexemes.{Lexeme, word, sign}
-use Rattle.spec_text.specs.Parts.{NotFirst}
+use Rattle.section_frame.specs.Parts.{NotFirst}
 use Rattle.expr_read.specs.declared.prefix.Prefix.{Prefix}
 use Rattle.expr_read.specs.Spoken.{Spoken, SpokenList, name, pair, binary, if_then, applied, grouped, no_spoken, and_spoken}
 use Rattle.expr_read.specs.Notation.{IsName, glyph_of, precedence}

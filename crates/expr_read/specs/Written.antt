@@ -4,7 +4,7 @@ use Rattle.value_store.specs.declared.value.ValType.{ValType}
 use Rattle.ck_base.specs.declared.fault.Kind.{Kind}
 use Rattle.ck_base.specs.declared.fault.Kind.TheVariants.{Syntax, Unknown, Typing}
 use Rattle.spec_text.specs.Lexemes.{Lexeme}
-use Rattle.spec_text.specs.Parts.{NoReading}
+use Rattle.section_frame.specs.Parts.{NoReading}
 use Rattle.spec_text.specs.Reading.{Placed}
 use Rattle.spec_text.specs.Sizes.{token_bytes}
 use Rattle.spec_text.specs.Spans.{Spells, span_of}

@@ -1,7 +1,7 @@
 // Expressions of one token, and names.
 ghost use Rattle.std.specs.Prelude.{◌≡◌, ◌↔◌, ℕ, codes, List, Contains, Some, None, map, IsTrue, MatchOption, IfSome};
 ghost use Rattle.spec_text.specs.Lexemes.{Lexeme, sign};
-ghost use Rattle.spec_text.specs.Parts.{NotFirst};
+ghost use Rattle.section_frame.specs.Parts.{NotFirst};
 ghost use Rattle.spec_text.specs.Seen.{seen};
 ghost use Rattle.expr_read.specs.Notation.{IsName, own_words, words_behind};
 ghost use Rattle.expr_read.specs.Spoken.{Spoken, nesting};
@@ -9,7 +9,8 @@ ghost use Rattle.expr_read.specs.within.Wholes.{Named, leaf_of};
 ghost use Rattle.expr_read.specs.Writing.{spoken_of};
 
 use crate::written::Written;
-use spec_text::{Token, after_sign, is_sign, is_word, name_of, number_of};
+use section_frame::{after_sign, is_sign, is_word, name_of, number_of};
+use spec_text::Token;
 
 /// The number, truth value, string or `$` with its number with which the tokens begin, and what follows
 /// it.

@@ -12,7 +12,8 @@ use crate::written::Written;
 use bumpalo::Bump;
 use bumpalo::collections::into_bump_slice;
 use ck_base::NoMemory;
-use spec_text::{Token, after_sign, after_word, name_of};
+use section_frame::{after_sign, after_word, name_of};
+use spec_text::Token;
 use std::alloc::Global;
 
 /// Arguments that were read, and the nesting of the deepest; 0 where there are none.

@@ -7,7 +7,8 @@ ghost use Rattle.expr_read.specs.Notation.{glyph_of, precedence};
 ghost use Rattle.expr_read.specs.within.Wholes.{IsOperator, NoOperator, NotWritten};
 
 use expr_lang::Op;
-use spec_text::{Token, is_sign};
+use section_frame::is_sign;
+use spec_text::Token;
 
 /// The operator of the level with which the tokens begin, and what follows it.
 pub(crate) fn operator_at<'t, 's>(

@@ -1,6 +1,6 @@
 // The longest written expression from a place on.
 ghost use Rattle.std.specs.Prelude.{◌≡◌, ◌↔◌, ℕ, map, MatchOption, IfOk, IsTrue};
-ghost use Rattle.spec_text.specs.Parts.{NoReading, Reading};
+ghost use Rattle.section_frame.specs.Parts.{NoReading, Reading};
 ghost use Rattle.spec_text.specs.Seen.{seen};
 ghost use Rattle.expr_read.specs.Notation.{IsSpoken, MayFollow};
 ghost use Rattle.expr_read.specs.Writing.{spoken_of};
@@ -10,7 +10,8 @@ use crate::levels::whole;
 use crate::written::Written;
 use bumpalo::Bump;
 use ck_base::NoMemory;
-use spec_text::{Token, is_sign};
+use section_frame::is_sign;
+use spec_text::Token;
 use std::alloc::Global;
 
 /// The expression with which the tokens begin, and what follows it, where that may follow one.

@@ -1,11 +1,12 @@
 // Prefix operators.
 ghost use Rattle.std.specs.Prelude.{◌≡◌, List, ◌∷◌, map, MatchOption};
 ghost use Rattle.spec_text.specs.Lexemes.{sign};
-ghost use Rattle.spec_text.specs.Parts.{Fixed};
+ghost use Rattle.section_frame.specs.Parts.{Fixed};
 ghost use Rattle.spec_text.specs.Seen.{seen};
 ghost use Rattle.expr_read.specs.within.Wholes.{NoPrefix, prefix_glyph};
 
-use spec_text::{Token, is_sign};
+use section_frame::is_sign;
+use spec_text::Token;
 
 /// A sign before an expression.
 #[derive(Clone, Copy)]

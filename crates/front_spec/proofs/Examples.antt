@@ -1,13 +1,13 @@
 -- The definitions, tried where the nearest wrong reading differs.
 use Rattle.std.proofs.Common.{◌≡◌, ℕ, true, false, List, [], ◌∷◌, Some, None, refl, sym, codes, arith}
 use Rattle.ck_base.specs.declared.fault.Kind.TheVariants.{Twice, Unknown}
-use Rattle.spec_text.specs.Declares.{Declared}
+use Rattle.section_frame.specs.Declares.{Declared}
 use Rattle.front_spec.specs.RexShapes.{SaidRule, Saying, state, rule}
 use Rattle.front_spec.specs.RexFaults.{all_states, all_positions, NamesState, active, next, RexFault, second_state, no_state}
 use Rattle.front_spec.specs.RexRules.{active_in}
 use Rattle.rex_model.specs.Language.{bytes, star, sequence}
 use Rattle.spec_text.specs.Lexemes.{Lexeme, text, sign}
-use Rattle.spec_text.specs.Parts.{last_one, one_more, last}
+use Rattle.section_frame.specs.Parts.{last_one, one_more, last}
 use Rattle.front_spec.specs.Regexes.{a_string, a_star, plain, signed, RegexOver, AtomIn}
 
 -- "a" "b"* has a nesting of 3

@@ -2,8 +2,9 @@
 use Rattle.std.proofs.Common.{◌≡◌, ℕ, zero, suc, ◌+◌, ◌<◌, ◌≤◌, inl, inr, true, false, List, [], ◌∷◌, ◌++◌, length, take, get_or, slice_get, refl, sym, ap, ◌∙◌, Some, None, Contains, codes, arith}
 use Rattle.ck_base.specs.declared.fault.Kind.TheVariants.{Limit, Twice, Unknown}
 use Rattle.cfg_model.specs.declared.symbol.Sym.TheVariants.{T, N}
-use Rattle.spec_text.specs.Declares.{Declared, no_lines, HasFault}
-use Rattle.spec_text.specs.FirstFault.{Least, FirstFault, of_kind}
+use Rattle.section_frame.specs.Declares.{Declared, no_lines, HasFault}
+use Rattle.spec_text.specs.Least.{Least}
+use Rattle.section_frame.specs.FirstFault.{FirstFault, of_kind}
 use Rattle.spec_text.specs.Lexemes.{word, sign, Begins, a_word}
 use Rattle.spec_text.specs.Lines.{Line, none_read, speaks, FileLines}
 use Rattle.spec_text.specs.Reading.{nothing, a_token}
@@ -12,7 +13,7 @@ use Rattle.spec_text.specs.TextLines.{no_lines as no_text, ended}
 use Rattle.spec_text.specs.declared.section.Part.{Part}
 use Rattle.spec_text.specs.declared.section.Section.TheVariants.{Rex, Ell}
 use Rattle.spec_text.proofs.SectionExamples.{word_line, begins_rex, begins_end}
-use Rattle.spec_text.proofs.KindOrder.{before_unknown}
+use Rattle.section_frame.proofs.KindOrder.{before_unknown}
 use Rattle.front_spec.specs.GrammarShapes.{SaidProduction, ProductionLine}
 use Rattle.front_spec.specs.GrammarFaults.{nonterminals_in, GrammarFault, second_label, left_is_token, left_is_end, no_symbol, too_many_rules, too_many_symbols, grammar}
 use Rattle.front_spec.specs.GrammarRules.{grammar_by}

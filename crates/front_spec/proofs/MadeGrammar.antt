@@ -13,7 +13,7 @@ use Rattle.ck_base.specs.declared.fault.Kind.TheVariants.{Limit, Unknown}
 use Rattle.ck_base.proofs.NamesMet.{name_at_number, met_has_number}
 use Rattle.cfg_model.specs.Cfg.{IsSymbol, IsGrammar}
 use Rattle.cfg_model.specs.declared.named.NamedGrammar.{NamedGrammar}
-use Rattle.spec_text.specs.Declares.{Declared}
+use Rattle.section_frame.specs.Declares.{Declared}
 use Rattle.spec_text.proofs.Lists.{take_step, take_all, get_at, get_fits, map_get}
 use Rattle.spec_text.proofs.Parting.{contains_at, some_at}
 use Rattle.front_spec.specs.GrammarShapes.{SaidProduction}

@@ -10,7 +10,7 @@ use Rattle.rex_model.specs.Language.{Re}
 use Rattle.rex_model.specs.Rules.{Rule}
 use Rattle.rex_model.specs.RuleMeaning.{rule_of}
 use Rattle.rex_model.specs.declared.rules.ScanRule.{ScanRule}
-use Rattle.spec_text.specs.Declares.{Declared}
+use Rattle.section_frame.specs.Declares.{Declared}
 use Rattle.spec_text.proofs.Lists.{take_step, take_all}
 use Rattle.front_spec.specs.RexShapes.{SaidRule, Saying, state, rule}
 use Rattle.front_spec.specs.RexRules.{add_rule, rules_in, add_token, tokens_in, number_in, is_number, active_in, rule_by}

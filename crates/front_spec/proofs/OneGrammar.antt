@@ -4,7 +4,7 @@ use Rattle.std.specs.List.{slice_get}
 use Rattle.ck_base.specs.Found.{HasNo}
 use Rattle.ck_base.specs.declared.fault.Kind.{Kind}
 use Rattle.cfg_model.specs.declared.named.NamedGrammar.{NamedGrammar}
-use Rattle.spec_text.specs.FirstFault.{FirstFault, Accepts, ExactlyOne}
+use Rattle.section_frame.specs.FirstFault.{FirstFault, Accepts, ExactlyOne}
 use Rattle.spec_text.specs.Lexemes.{Lexeme, word}
 use Rattle.spec_text.specs.Lines.{Line}
 use Rattle.spec_text.specs.Promise.{HasSection}
@@ -12,7 +12,7 @@ use Rattle.spec_text.specs.Sections.{rank, Stand, closed, part, part_from, Secti
 use Rattle.spec_text.specs.declared.section.Section.{Section}
 use Rattle.spec_text.specs.declared.section.Section.TheVariants.{Lalr, Ell}
 use Rattle.spec_text.specs.declared.section.Part.{Part}
-use Rattle.spec_text.proofs.Frame.{one_of_both_at}
+use Rattle.section_frame.proofs.Frame.{one_of_both_at}
 use Rattle.spec_text.proofs.Lists.{get_at}
 use Rattle.spec_text.proofs.Numbers.{section_grows}
 use Rattle.spec_text.proofs.OneSections.{one_order, one_section}

@@ -3,14 +3,14 @@ use Rattle.std.proofs.Common.{◌≡◌, ℕ, List, refl, sym, ap, ◌∙◌, su
 use Rattle.ck_base.specs.Found.{HasNo}
 use Rattle.ck_base.specs.declared.fault.Kind.{Kind}
 use Rattle.rex_model.specs.Rules.{Rules}
-use Rattle.spec_text.specs.Declares.{judged}
-use Rattle.spec_text.specs.FirstFault.{FirstFault, Accepts, ExactlyOne}
+use Rattle.section_frame.specs.Declares.{judged}
+use Rattle.section_frame.specs.FirstFault.{FirstFault, Accepts, ExactlyOne}
 use Rattle.spec_text.specs.Lines.{Line}
 use Rattle.spec_text.specs.Promise.{HasSections, HasSection}
 use Rattle.spec_text.specs.Sections.{SectionLines}
 use Rattle.spec_text.specs.declared.section.Section.TheVariants.{Rex}
 use Rattle.spec_text.specs.declared.section.Part.{Part}
-use Rattle.spec_text.proofs.Frame.{one_of_both}
+use Rattle.section_frame.proofs.Frame.{one_of_both}
 use Rattle.spec_text.proofs.Numbers.{section_grows}
 use Rattle.spec_text.proofs.OneSections.{one_section}
 use Rattle.spec_text.proofs.SomeSections.{has_rex}

@@ -3,9 +3,8 @@ use Rattle.std.proofs.Common.{◌≡◌, ℕ, List, ◌∷◌, refl, sym, ap, �
 use Rattle.spec_text.specs.Lexemes.{Lexeme, word, sign}
 use Rattle.front_spec.specs.Regexes.{IsRegex, EndsRegex, meaning_of}
 use Rattle.front_spec.specs.RexShapes.{States, Body, Context, NoSlashEnds, Go, Produces, Skips, with_token, without_token, Action, RuleShape}
-use Rattle.spec_text.specs.Parts.{Part, Name, Opt, ListOf, Before, Then, Or, first as by_first, second as by_second, Seen, Follow, Anything, Nothing, NotFirst}
-use Rattle.spec_text.proofs.Readings.{comma}
-use Rattle.spec_text.proofs.One.{One, one_name, one_opt, one_behind, one_before, one_list, one_then}
+use Rattle.section_frame.specs.Parts.{Part, Name, Opt, ListOf, Before, Then, Or, first as by_first, second as by_second, Seen, Follow, Anything, Nothing, NotFirst, comma}
+use Rattle.section_frame.proofs.One.{One, one_name, one_opt, one_behind, one_before, one_list, one_then}
 use Rattle.front_spec.proofs.OneRegex.{one_regex}
 use Rattle.front_spec.proofs.RuleReadings.{NotLess, Behind_body, Behind_states, action_first, behind_body_first, body_first}
 

@@ -4,7 +4,7 @@ use Rattle.ck_base.specs.declared.fault.Kind.TheVariants.{Syntax}
 use Rattle.spec_text.specs.Lexemes.{Lexeme, word}
 use Rattle.spec_text.specs.Lines.{Line, said_by}
 use Rattle.spec_text.specs.Spans.{IsLineOf}
-use Rattle.spec_text.specs.Declares.{Declared, Says, kind_of}
+use Rattle.section_frame.specs.Declares.{Declared, Says, kind_of}
 use Rattle.spec_text.specs.declared.line.SpecLine.{SpecLine}
 use Rattle.front_spec.specs.RexFaults.{rex}
 use Rattle.front_spec.specs.RexShapes.{SaidRule, StateLine, RuleLine, Saying, state, rule, RexShape, a_state, a_rule}
@@ -38,7 +38,7 @@ neither_shape tokens no_state no_rule said is = by said is
 
 pub shapeless_line : (file : List ℕ) (line : SpecLine) (is : Line) → IsLineOf file line is → line.bad ≡ None → {tokens : List Lexeme}
     → tokens ≡ said_by is → ((said : Saying) → RexShape tokens said → ⊥)
-    → (line.number ≡ is.number) × (Syntax ≡ kind_of is.bad) × ((d : Declared Saying) → Says rex is d → ⊥)
+    → (line.number ≡ is.number) × (Syntax ≡ kind_of is.bad) × ((d : Declared Saying) → Says rex.Shape is d → ⊥)
 shapeless_line file line is it good seen none = (
   ap (λ l. l.number) it.same,
   (let same : is.bad ≡ None = sym (ap (λ l. l.bad) it.same) ∙ good in rw same refl),

@@ -5,15 +5,16 @@ use Rattle.std.proofs.lemmas.List.{append-nil, length-map}
 use Rattle.ck_base.specs.declared.fault.Kind.TheVariants.{Limit, Twice, Unknown, Typing}
 use Rattle.ck_base.specs.Numbered.{met}
 use Rattle.ck_base.proofs.NamesMet.{met_new, none_where_absent}
-use Rattle.spec_text.specs.Declares.{Declared, HasAt, DeclareAll, HasFault, judged, Grow}
-use Rattle.spec_text.specs.FirstFault.{Least, FirstFault, of_kind, Accepts}
+use Rattle.section_frame.specs.Declares.{Declared, HasAt, DeclareAll, HasFault, judged, Grow}
+use Rattle.spec_text.specs.Least.{Least}
+use Rattle.section_frame.specs.FirstFault.{FirstFault, of_kind, Accepts}
 use Rattle.spec_text.specs.Lines.{Line}
 use Rattle.std.specs.Borrow.{Bor}
 use Rattle.spec_text.specs.Seen.{bytes_of}
 use Rattle.spec_text.proofs.Lists.{order, take_step, take_all, get_at, map_get}
 use Rattle.spec_text.proofs.Parting.{contains_at}
-use Rattle.spec_text.proofs.Frame.{NoneBefore, none_more, none_in_all, first_here}
-use Rattle.spec_text.proofs.KindOrder.{before_twice, before_unknown, before_limit, accepted}
+use Rattle.section_frame.proofs.Frame.{NoneBefore, none_more, none_in_all, first_here}
+use Rattle.section_frame.proofs.KindOrder.{before_twice, before_unknown, before_limit, accepted}
 use Rattle.front_spec.specs.RexShapes.{SaidRule, Saying, state, rule}
 use Rattle.front_spec.specs.RexFaults.{add_state, states_in, all_states, positions_of, all_positions, NamesState, active, next, RexFault, second_state, end_token, no_state, too_many_states, too_many_positions, rex}
 use Rattle.front_spec.specs.Seen.{declared_by}
@@ -172,7 +173,7 @@ no_type ds line has = by has.place has.declared.said has.fault
     by : (i : ℕ) (said : Saying) → RexFault ds Typing i said → ⊥
     by i said fault = elim fault [ ]
 
-module _ (lines : List Line) (ds : List (Declared Saying)) (all : DeclareAll rex lines ds) where
+module _ (lines : List Line) (ds : List (Declared Saying)) (all : DeclareAll rex.Shape lines ds) where
   pub is_twice : (line : ℕ) → Least (HasFault rex ds Twice) line → FirstFault (judged rex lines) line Twice
   is_twice line least = of_kind ds line Twice all (omega arith) (before_twice (judged rex lines) ds) least
 

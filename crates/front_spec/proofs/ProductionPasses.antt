@@ -7,12 +7,13 @@ use Rattle.ck_base.specs.Numbered.{met}
 use Rattle.ck_base.specs.declared.fault.Kind.{Kind}
 use Rattle.ck_base.specs.declared.fault.Kind.TheVariants.{Limit, Twice, Unknown, Typing}
 use Rattle.ck_base.proofs.NamesMet.{met-append, met_new, none_where_absent, length-met}
-use Rattle.spec_text.specs.Declares.{Declared, DeclareAll, HasAt, HasFault, Grow}
-use Rattle.spec_text.specs.FirstFault.{Least, FirstFault, of_kind, Accepts}
+use Rattle.section_frame.specs.Declares.{Declared, DeclareAll, HasAt, HasFault, Grow}
+use Rattle.spec_text.specs.Least.{Least}
+use Rattle.section_frame.specs.FirstFault.{FirstFault, of_kind, Accepts}
 use Rattle.spec_text.specs.Sections.{SectionLines}
 use Rattle.spec_text.specs.Seen.{bytes_of}
-use Rattle.spec_text.proofs.Frame.{NoneBefore, none_more, none_in_all, first_here}
-use Rattle.spec_text.proofs.KindOrder.{before_twice, before_unknown, before_limit, accepted}
+use Rattle.section_frame.proofs.Frame.{NoneBefore, none_more, none_in_all, first_here}
+use Rattle.section_frame.proofs.KindOrder.{before_twice, before_unknown, before_limit, accepted}
 use Rattle.spec_text.proofs.Lists.{order, take_step, take_all, get_at, map_get}
 use Rattle.spec_text.proofs.Parting.{contains_at}
 use Rattle.front_spec.specs.GrammarShapes.{SaidProduction}
@@ -257,7 +258,7 @@ module _ (tokens : List (List ℕ)) (ds : List (Declared SaidProduction)) (i : �
 -- one kind after the other
 module _ (tokens : List (List ℕ)) (these : SectionLines) (ds : List (Declared SaidProduction)) (head : ℕ)
     (at_head : head ≡ these.head)
-    (all : DeclareAll (grammar tokens) these.inside ds) where
+    (all : DeclareAll (grammar tokens).Shape these.inside ds) where
   not_twice : NoProduction ds Twice → ⊥
   not_twice is = elim is [ ]
 

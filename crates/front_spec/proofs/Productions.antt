@@ -4,16 +4,16 @@ use Rattle.std.specs.List.{slice_get}
 use Rattle.ck_base.specs.Found.{HasNo}
 use Rattle.ck_base.specs.declared.fault.SpecFault.{SpecFault}
 use Rattle.ck_base.specs.declared.fault.SpecFault.TheVariants.{Bad, NoMemory}
-use Rattle.spec_text.specs.Declares.{Declared, DeclareAll, IsFaultOfLine, LinesGrow}
+use Rattle.section_frame.specs.Declares.{Declared, DeclareAll, IsFaultOfLine}
 use Rattle.spec_text.specs.Lexemes.{word}
-use Rattle.spec_text.specs.Lines.{Line}
+use Rattle.spec_text.specs.Lines.{Line, LinesGrow}
 use Rattle.spec_text.specs.Promise.{HasSection, IsSectionOf}
 use Rattle.spec_text.specs.Sections.{SectionLines}
 use Rattle.spec_text.specs.Seen.{seen}
 use Rattle.spec_text.specs.declared.section.Section.TheVariants.{Lalr, Ell}
 use Rattle.spec_text.specs.declared.section.SectionText.{SectionText}
 use Rattle.spec_text.specs.declared.view.Token.{Token}
-use Rattle.spec_text.proofs.Frame.{first_shapeless_at}
+use Rattle.section_frame.proofs.Frame.{first_shapeless_at}
 use Rattle.front_spec.specs.GrammarFaults.{NoProduction, grammar}
 use Rattle.front_spec.specs.GrammarShapes.{SaidProduction}
 use Rattle.front_spec.specs.GrammarSteps.{IsGrammarText, IsFirstOf}
@@ -33,8 +33,8 @@ not_all_names (token ∷ tokens) (suc i) t less none (name ∷ names) same =
 -- the first line without a shape
 pub first_without_rule : (tokens : List (List ℕ)) (these : SectionLines) (i : ℕ) (line : Line)
     (ds : List (Declared SaidProduction)) (fault : SpecFault)
-    → LinesGrow these.inside → slice_get these.inside i ≡ Some line → DeclareAll (grammar tokens) (take i these.inside) ds
-    → IsFaultOfLine (grammar tokens) line fault → IsFirstOf tokens these fault
+    → LinesGrow these.inside → slice_get these.inside i ≡ Some line → DeclareAll (grammar tokens).Shape (take i these.inside) ds
+    → IsFaultOfLine (grammar tokens).Shape line fault → IsFirstOf tokens these fault
 first_without_rule tokens these i line ds (Bad number kind) grow at so is =
     first_shapeless_at (grammar tokens) these.head NoProduction these.inside i line ds number kind grow at so is
 first_without_rule tokens these i line ds NoMemory grow at so is = tt

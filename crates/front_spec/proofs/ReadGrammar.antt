@@ -4,12 +4,12 @@ use Rattle.ck_base.specs.declared.fault.SpecFault.{SpecFault}
 use Rattle.ck_base.specs.declared.fault.SpecFault.TheVariants.{Bad, NoMemory}
 use Rattle.cfg_model.specs.Cfg.{Rule}
 use Rattle.cfg_model.specs.declared.named.NamedGrammar.{NamedGrammar}
-use Rattle.spec_text.specs.Declares.{Declared, DeclareAll, Grow}
-use Rattle.spec_text.specs.FirstFault.{Accepts}
+use Rattle.section_frame.specs.Declares.{Declared, DeclareAll, Grow}
+use Rattle.section_frame.specs.FirstFault.{Accepts}
 use Rattle.spec_text.specs.Lines.{Line}
 use Rattle.spec_text.specs.Sections.{SectionLines}
 use Rattle.spec_text.specs.Spans.{AreLinesOf}
-use Rattle.spec_text.proofs.Frame.{declared_grow}
+use Rattle.section_frame.proofs.Frame.{declared_grow}
 use Rattle.spec_text.proofs.Numbers.{section_grows, section_few}
 use Rattle.spec_text.proofs.Views.{as_many}
 use Rattle.front_spec.specs.GrammarShapes.{SaidProduction}
@@ -28,7 +28,7 @@ module _ (file : List ℕ) (tokens : List (List ℕ)) (text : GrammarText) (is :
   -- the declarations are as many as the lines of the section, and their numbers grow
   module _ (list rows : List Production) (rows_are : rows ≡ list) (size : length file ≤ 1048576)
       (declared : (tokens : List (List ℕ)) (are : List Line) → AreLinesOf file text.section.lines.now are
-      → DeclareAll (grammar tokens) are (map produced_by list))
+      → DeclareAll (grammar tokens).Shape are (map produced_by list))
       (few : length list ≡ length text.section.lines.now) where
     pub list_few : length rows ≤ 1048576
     list_few =
@@ -36,17 +36,17 @@ module _ (file : List ℕ) (tokens : List (List ℕ)) (text : GrammarText) (is :
         let less = section_few file is.has.section is.these is.has.has in
         let same = ap length rows_are in omega (arith, same, few, many, less, size)
 
-    pub all_declared : DeclareAll (grammar tokens) is.these.inside (map produced_by rows)
+    pub all_declared : DeclareAll (grammar tokens).Shape is.these.inside (map produced_by rows)
     all_declared = rw rows_are (declared tokens is.these.inside is.lines)
 
     pub list_grows : Grow (map produced_by rows)
     list_grows =
-        declared_grow (grammar tokens) is.these.inside (map produced_by rows) all_declared
+        declared_grow (grammar tokens).Shape is.these.inside (map produced_by rows) all_declared
         (section_grows file is.has.section is.these is.has.has)
 
     -- without a fault the grammar is declared, and in its ranges
     module _ (accepts : (these : SectionLines) → text.section.head ≡ these.head
-        → DeclareAll (grammar tokens) these.inside (map produced_by rows)
+        → DeclareAll (grammar tokens).Shape these.inside (map produced_by rows)
         → Accepts (judged_grammar tokens these) (map produced_by rows)) where
       accepted : Accepts (judged_grammar tokens is.these) (map produced_by rows)
       accepted = accepts is.these is.head all_declared

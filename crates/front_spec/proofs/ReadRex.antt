@@ -11,16 +11,16 @@ use Rattle.rex_model.specs.Positions.{position_count}
 use Rattle.rex_model.specs.Rules.{Rule, Rules, trailing}
 use Rattle.rex_model.specs.Sets.{marked_rules}
 use Rattle.std.proofs.lemmas.List.{length-map}
-use Rattle.spec_text.specs.Declares.{Declared, DeclareAll, Grow, IsFirstFault, judged}
+use Rattle.section_frame.specs.Declares.{Declared, DeclareAll, Grow, IsFirstFault, judged}
 use Rattle.spec_text.specs.Lines.{Line}
 use Rattle.spec_text.specs.Spans.{AreLinesOf}
 use Rattle.spec_text.specs.declared.section.SectionText.{SectionText}
-use Rattle.spec_text.proofs.Frame.{declared_grow}
+use Rattle.section_frame.proofs.Frame.{declared_grow}
 use Rattle.spec_text.proofs.Numbers.{section_grows, section_few}
 use Rattle.spec_text.proofs.Views.{as_many}
 use Rattle.front_spec.specs.Seen.{declared_by}
 use Rattle.front_spec.specs.declared.declaration.Declaration.{Declaration}
-use Rattle.spec_text.specs.FirstFault.{Accepts}
+use Rattle.section_frame.specs.FirstFault.{Accepts}
 use Rattle.spec_text.specs.Promise.{HasSection, IsSectionOf}
 use Rattle.spec_text.specs.Sections.{SectionLines}
 use Rattle.spec_text.specs.declared.section.Section.TheVariants.{Rex}
@@ -189,7 +189,7 @@ pub record IsMade (file : List ℕ) (rules : Rules) : Type 0 where
 
 -- the declarations are as many as the lines of the section, and their numbers grow
 module _ (file : List ℕ) (text : SectionText) (section : IsSectionOf file Rex text) (list : List Declaration) (size : length file ≤ 1048576)
-    (declared : (are : List Line) → AreLinesOf file text.lines.now are → DeclareAll rex are (map declared_by list))
+    (declared : (are : List Line) → AreLinesOf file text.lines.now are → DeclareAll rex.Shape are (map declared_by list))
     (few : length list ≡ length text.lines.now) where
   pub list_few : length list ≤ 1048576
   list_few =
@@ -197,15 +197,15 @@ module _ (file : List ℕ) (text : SectionText) (section : IsSectionOf file Rex 
       let less = section_few file Rex section.these section.has in omega (arith, few, many, less, size)
 
   pub list_grows : Grow (map declared_by list)
-  list_grows = declared_grow rex section.these.inside (map declared_by list) (declared section.these.inside section.lines)
+  list_grows = declared_grow rex.Shape section.these.inside (map declared_by list) (declared section.these.inside section.lines)
       (section_grows file Rex section.these section.has)
 
-  pub all_declared : (same : List Declaration) → same ≡ list → DeclareAll rex section.these.inside (map declared_by same)
+  pub all_declared : (same : List Declaration) → same ≡ list → DeclareAll rex.Shape section.these.inside (map declared_by same)
   all_declared same is = rw is (declared section.these.inside section.lines)
 
   pub made : (first second third : List Declaration) → first ≡ list → second ≡ list → third ≡ list
       → (states tokens : List (List ℕ)) (rules : List Rule) → states ≡ all_states (map declared_by first)
-      → ((lines : List Line) → DeclareAll rex lines (map declared_by first) → Accepts (judged rex lines) (map declared_by first))
+      → ((lines : List Line) → DeclareAll rex.Shape lines (map declared_by first) → Accepts (judged rex lines) (map declared_by first))
       → tokens ≡ met [] (tokens_in (rules_in (map declared_by second)))
       → rules ≡ map (rule_by states tokens) (rules_in (map declared_by third))
       → IsMade file (record { states = states; tokens = tokens; list = rules })

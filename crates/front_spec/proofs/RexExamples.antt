@@ -1,8 +1,8 @@
 -- The shortest file that has sections declares no rule.
 use Rattle.std.proofs.Common.{ℕ, [], refl}
 use Rattle.ck_base.specs.declared.fault.Kind.{Kind}
-use Rattle.spec_text.specs.Declares.{no_lines, HasAt, judged}
-use Rattle.spec_text.specs.FirstFault.{Accepts}
+use Rattle.section_frame.specs.Declares.{no_lines, HasAt, judged}
+use Rattle.section_frame.specs.FirstFault.{Accepts}
 use Rattle.spec_text.proofs.SectionExamples.{rex_end_file, rex_end_rex}
 use Rattle.front_spec.specs.RexFaults.{rex, RexFault}
 use Rattle.front_spec.specs.RexRules.{rules_by}

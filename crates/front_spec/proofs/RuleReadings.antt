@@ -4,8 +4,8 @@ use Rattle.rex_model.specs.Language.{Re}
 use Rattle.spec_text.specs.Lexemes.{Lexeme, word, sign}
 use Rattle.front_spec.specs.Regexes.{Written, Leaf, a_string, a_class, a_dot, Signed, plain, signed, IsRegex, AtomIn, PieceOver, RowOver, EndsRegex}
 use Rattle.front_spec.specs.RexShapes.{States, Body, Context, NoSlashEnds, Go, Produces, Skips, with_token, without_token, Action, SaidRule, RuleLine}
-use Rattle.spec_text.specs.Parts.{Part, Fixed, Name, Opt, absent, present, ListBy, ListOf, last, next, Some1, last_one, one_more, Before, Then, Or, first as by_first, second as by_second, Seen, Follow, Nothing, NotFirst, Reading, NoReading}
-use Rattle.spec_text.proofs.Readings.{name_reading, comma, opt_present, opt_absent, opt_none, behind, before, none_behind, not_behind, none_first, none_second}
+use Rattle.section_frame.specs.Parts.{Part, Fixed, Name, Opt, absent, present, ListBy, ListOf, last, next, Some1, last_one, one_more, Before, Then, Or, first as by_first, second as by_second, Seen, Follow, Nothing, NotFirst, Reading, NoReading, comma}
+use Rattle.section_frame.proofs.Readings.{name_reading, opt_present, opt_absent, opt_none, behind, before, none_behind, not_behind, none_first, none_second}
 use Rattle.front_spec.proofs.RegexParts.{same_code, no_glyph, no_leaf_at}
 
 -- the parts of a rule

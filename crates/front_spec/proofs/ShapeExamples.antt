@@ -4,10 +4,10 @@ use Rattle.std.specs.List.{slice_get}
 use Rattle.ck_base.specs.declared.fault.Kind.{Kind}
 use Rattle.ck_base.specs.declared.fault.Kind.TheVariants.{Twice}
 use Rattle.rex_model.specs.Language.{bytes}
-use Rattle.spec_text.specs.Declares.{Declared, HasFault}
+use Rattle.section_frame.specs.Declares.{Declared, HasFault}
 use Rattle.spec_text.specs.Lexemes.{Lexeme, word, text, sign}
-use Rattle.spec_text.specs.Parts.{Or, Seen, absent, present, last, last_one, first as by_first, second as by_second, Nothing, Reading}
-use Rattle.spec_text.proofs.Readings.{not_behind}
+use Rattle.section_frame.specs.Parts.{Or, Seen, absent, present, last, last_one, first as by_first, second as by_second, Nothing, Reading}
+use Rattle.section_frame.proofs.Readings.{not_behind}
 use Rattle.front_spec.specs.Regexes.{Written, is_dot_byte, a_string, plain, meaning_of, IsRegex, EndsRegex}
 use Rattle.front_spec.specs.RexShapes.{Body, Produces, Skips, with_token, without_token, SaidRule, RuleLine, Saying, state, rule, RexShape}
 use Rattle.front_spec.specs.RexFaults.{RexFault, second_state, end_token, no_state, too_many_states, too_many_positions, all_positions, rex}

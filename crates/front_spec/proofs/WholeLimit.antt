@@ -3,7 +3,7 @@ use Rattle.std.proofs.Common.{◌≡◌, ℕ, zero, suc, ◌+◌, ◌≤◌, Lis
 use Rattle.rex_model.specs.Language.{Re}
 use Rattle.rex_model.specs.Meaning.{sequence_of, alternative_of}
 use Rattle.spec_text.specs.Lexemes.{Lexeme, sign}
-use Rattle.spec_text.specs.Parts.{Part, Some1, last_one, one_more, ListBy, last, next, Behind, Before, Or, first as by_first, second as by_second, Seen}
+use Rattle.section_frame.specs.Parts.{Part, Some1, last_one, one_more, ListBy, last, next, Behind, Before, Or, first as by_first, second as by_second, Seen}
 use Rattle.front_spec.specs.Regexes.{Written, Leaf, Signed, plain, signed, deepest, meaning_of, joined, row_of, choice_of, group, PieceOver, RowOver, RegexOver, AtomIn, RegexIn}
 
 -- the same without limits

@@ -3,7 +3,7 @@ use Rattle.std.specs.Prelude.{◌≡◌, ℕ, ◌+◌, ◌<◌, List, [], length
 use Rattle.ck_base.specs.Numbered.{met}
 use Rattle.ck_base.specs.declared.fault.Kind.{Kind}
 use Rattle.ck_base.specs.declared.fault.Kind.TheVariants.{Limit, Twice, Unknown}
-use Rattle.spec_text.specs.Declares.{Declared, Notation}
+use Rattle.section_frame.specs.Declares.{Declared, Notation}
 use Rattle.front_spec.specs.GrammarShapes.{SaidProduction, ProductionLine}
 
 -- the labels of productions, in the order of their lines

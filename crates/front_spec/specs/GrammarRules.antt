@@ -5,7 +5,7 @@ use Rattle.cfg_model.specs.Cfg.{Cfg, Rule}
 use Rattle.cfg_model.specs.declared.named.NamedGrammar.{NamedGrammar}
 use Rattle.cfg_model.specs.declared.symbol.Sym.{Sym}
 use Rattle.cfg_model.specs.declared.symbol.Sym.TheVariants.{T, N}
-use Rattle.spec_text.specs.Declares.{Declared}
+use Rattle.section_frame.specs.Declares.{Declared}
 use Rattle.front_spec.specs.GrammarShapes.{SaidProduction}
 use Rattle.front_spec.specs.GrammarFaults.{labels_in, nonterminals_in}
 

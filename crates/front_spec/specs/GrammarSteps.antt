@@ -3,8 +3,8 @@ use Rattle.std.specs.Prelude.{◌≡◌, ◌⊎◌, ℕ, ◌+◌, ◌<◌, Bool,
 use Rattle.ck_base.specs.declared.fault.Kind.{Kind}
 use Rattle.ck_base.specs.declared.fault.SpecFault.{SpecFault}
 use Rattle.ck_base.specs.declared.fault.SpecFault.TheVariants.{Bad, NoMemory}
-use Rattle.spec_text.specs.Declares.{Declared, HasFault}
-use Rattle.spec_text.specs.FirstFault.{FirstFault}
+use Rattle.section_frame.specs.Declares.{Declared, HasFault}
+use Rattle.section_frame.specs.FirstFault.{FirstFault}
 use Rattle.spec_text.specs.Lexemes.{Lexeme, word, sign}
 use Rattle.spec_text.specs.Sections.{SectionLines}
 use Rattle.spec_text.specs.Seen.{bytes_of}

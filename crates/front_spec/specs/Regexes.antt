@@ -3,7 +3,7 @@ use Rattle.std.specs.Prelude.{◌≡◌, ℕ, zero, suc, ◌+◌, ◌≤◌, ◌
 use Rattle.rex_model.specs.Language.{Re, bytes, class, star, plus, optional}
 use Rattle.rex_model.specs.Meaning.{sequence_of, alternative_of}
 use Rattle.spec_text.specs.Lexemes.{Lexeme, text, class as byte_set, sign}
-use Rattle.spec_text.specs.Parts.{Part, Follow, Fixed, Some1, ListBy, Behind, Before, Or, Seen, NotFirst}
+use Rattle.section_frame.specs.Parts.{Part, Follow, Fixed, Some1, ListBy, Behind, Before, Or, Seen, NotFirst}
 
 -- what an expression means, and its nesting
 pub record Written : Type 0 where

@@ -4,7 +4,7 @@ use Rattle.ck_base.specs.declared.fault.Kind.{Kind}
 use Rattle.ck_base.specs.declared.fault.Kind.TheVariants.{Limit, Twice, Unknown}
 use Rattle.rex_model.specs.Language.{Re}
 use Rattle.rex_model.specs.Positions.{position_count}
-use Rattle.spec_text.specs.Declares.{Declared, Notation}
+use Rattle.section_frame.specs.Declares.{Declared, Notation}
 use Rattle.front_spec.specs.RexShapes.{SaidRule, Saying, state, rule, RexShape}
 
 -- the states that are declared, in the order of their lines

@@ -3,7 +3,7 @@ use Rattle.std.specs.Prelude.{ℕ, ◌==◌, Bool, false, List, [], ◌∷◌, m
 use Rattle.std.specs.List.{list_any}
 use Rattle.ck_base.specs.Numbered.{number_of, met}
 use Rattle.rex_model.specs.Rules.{Rule, Rules}
-use Rattle.spec_text.specs.Declares.{Declared}
+use Rattle.section_frame.specs.Declares.{Declared}
 use Rattle.front_spec.specs.RexShapes.{SaidRule, Saying, state, rule}
 use Rattle.front_spec.specs.RexFaults.{all_states}
 

@@ -2,7 +2,7 @@
 use Rattle.std.specs.Prelude.{◌≡◌, ℕ, List, [], ◌∷◌, Option, Some, None, codes}
 use Rattle.rex_model.specs.Language.{Re}
 use Rattle.spec_text.specs.Lexemes.{Lexeme, word, sign}
-use Rattle.spec_text.specs.Parts.{Part, Name, Opt, ListOf, Behind, Before, Then, Or, Seen, Follow, NotFirst}
+use Rattle.section_frame.specs.Parts.{Part, Name, Opt, ListOf, Behind, Before, Then, Or, Seen, Follow, NotFirst}
 use Rattle.front_spec.specs.Regexes.{IsRegex, EndsRegex, meaning_of}
 
 -- `STATE name`

@@ -5,7 +5,7 @@ use Rattle.std.specs.Borrow.{Bor}
 use Rattle.rex_model.specs.Language.{Re}
 use Rattle.rex_model.specs.Meaning.{meaning}
 use Rattle.rex_model.specs.declared.regex.Regex.{Regex}
-use Rattle.spec_text.specs.Declares.{Declared}
+use Rattle.section_frame.specs.Declares.{Declared}
 use Rattle.spec_text.specs.Seen.{bytes_of, name_in}
 use Rattle.front_spec.specs.Regexes.{Written, Sign, a_star, a_plus, a_question}
 use Rattle.front_spec.specs.RexShapes.{SaidRule, Saying, state, rule}

@@ -1,7 +1,7 @@
 -- What the steps of the reader find. Only contracts within the crate cite these.
 use Rattle.std.specs.Prelude.{◌≡◌, ℕ, ◌<◌, ◌⊎◌, Bool, true, false, List, [], ◌∷◌, ◌++◌, Option, Some, None, Contains, codes}
 use Rattle.ck_base.specs.declared.fault.Kind.{Kind}
-use Rattle.spec_text.specs.Declares.{Declared, HasFault}
+use Rattle.section_frame.specs.Declares.{Declared, HasFault}
 use Rattle.front_spec.specs.RexShapes.{SaidRule, Saying, state, rule}
 use Rattle.front_spec.specs.RexFaults.{NamesState, rex}
 use Rattle.front_spec.specs.RexRules.{active_in}

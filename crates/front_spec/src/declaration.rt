@@ -1,7 +1,7 @@
 // Lines of the section REX as declarations, by their shapes.
 ghost use Rattle.std.specs.Prelude.{◌≡◌, ◌+◌, ◌^◌, ◌<◌, ◌≤◌, ℕ, List, length, map, MatchOption, IfOk, IfErr};
-ghost use Rattle.spec_text.specs.Declares.{DeclareAll, IsFaultOfLine, IsFirstFault, LinesGrow, Says as is_said};
-ghost use Rattle.spec_text.specs.Lines.{Line};
+ghost use Rattle.section_frame.specs.Declares.{DeclareAll, IsFaultOfLine, IsFirstFault, Says as is_said};
+ghost use Rattle.spec_text.specs.Lines.{Line, LinesGrow};
 ghost use Rattle.spec_text.specs.Seen.{name_in, seen};
 ghost use Rattle.spec_text.specs.Spans.{AreLinesOf, IsLineOf};
 ghost use Rattle.front_spec.specs.RexFaults.{rex};
@@ -11,7 +11,8 @@ ghost use Rattle.front_spec.specs.Seen.{declared_by, saying};
 use crate::rule::{DeclaredRule, rule_line};
 use bumpalo::Bump;
 use ck_base::{Kind, NoMemory, SpecFault};
-use spec_text::{SpecLine, Token, after_word, name_of, tokens_in};
+use section_frame::{after_word, name_of};
+use spec_text::{SpecLine, Token, tokens_in};
 use std::alloc::Global;
 
 /// What a line of REX declares.
@@ -38,7 +39,7 @@ pub(crate) fn declarations<'a, 's>(
 ) -> Result<Vec<Declaration<'a, 's>>, SpecFault>
     requires { (are : List Line) × AreLinesOf spec.now lines.now are × LinesGrow are }
     ensures declared { IfOk result (λ list. (are : List Line) → AreLinesOf spec.now lines.now are
-        → DeclareAll rex are (map declared_by list.items)) }
+        → DeclareAll rex.Shape are (map declared_by list.items)) }
     ensures few { IfOk result (λ list. length list.items ≡ length lines.now) }
     ensures fault { IfErr result (λ fault. (are : List Line) → AreLinesOf spec.now lines.now are
         → LinesGrow are → IsFirstFault rex are fault) }
@@ -60,9 +61,9 @@ fn declared_in<'a, 's>(
 ) -> Result<Declaration<'a, 's>, SpecFault>
     requires { (is : Line) × IsLineOf spec.now line.now is }
     ensures says { IfOk result (λ d. (is : Line) → IsLineOf spec.now line.now is
-        → is_said rex is (declared_by d)) }
+        → is_said rex.Shape is (declared_by d)) }
     ensures fault { IfErr result (λ fault. (is : Line) → IsLineOf spec.now line.now is
-        → IsFaultOfLine rex is fault) }
+        → IsFaultOfLine rex.Shape is fault) }
 {
     let number = line.number;
     if let Some(kind) = line.bad {

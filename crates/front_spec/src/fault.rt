@@ -3,8 +3,8 @@ ghost use Rattle.std.specs.Prelude.{◌≡◌, ℕ, ◌+◌, ◌^◌, ◌<◌, �
 ghost use Rattle.ck_base.specs.declared.fault.Kind.TheVariants.{Limit as limit, Twice as twice, Unknown as unknown};
 ghost use Rattle.rex_model.specs.Meaning.{meaning};
 ghost use Rattle.rex_model.specs.Positions.{position_count};
-ghost use Rattle.spec_text.specs.Declares.{Grow, HasFault};
-ghost use Rattle.spec_text.specs.FirstFault.{Least};
+ghost use Rattle.section_frame.specs.Declares.{Grow, HasFault};
+ghost use Rattle.spec_text.specs.Least.{Least};
 ghost use Rattle.spec_text.specs.Seen.{bytes_of, name_in};
 ghost use Rattle.front_spec.specs.RexFaults.{add_state, all_states, context_positions, positions_of, rex};
 ghost use Rattle.front_spec.specs.RexShapes.{rule as a_rule, state as a_state};

@@ -1,8 +1,8 @@
 // The grammar section read: its grammar and names, or its first fault.
 ghost use Rattle.std.specs.Prelude.{◌≡◌, ℕ, ◌+◌, ◌^◌, ◌<◌, Bool, ◌≤◌, List, length, map, IfOk, IfErr};
 ghost use Rattle.cfg_model.specs.Cfg.{IsGrammar};
-ghost use Rattle.spec_text.specs.Declares.{DeclareAll, Grow};
-ghost use Rattle.spec_text.specs.FirstFault.{Accepts};
+ghost use Rattle.section_frame.specs.Declares.{DeclareAll, Grow};
+ghost use Rattle.section_frame.specs.FirstFault.{Accepts};
 ghost use Rattle.spec_text.specs.Promise.{AreSectionsOf};
 ghost use Rattle.spec_text.specs.Sections.{SectionLines};
 ghost use Rattle.front_spec.specs.GrammarFaults.{grammar, labels_in, nonterminals_in};
@@ -81,10 +81,10 @@ fn declared_names(
     ensures nonterminals { IfOk result (λ names.
         names.nonterminals ≡ nonterminals_in (map produced_by list.now)) }
     ensures accepted { IfOk result (λ names. (these : SectionLines) → head ≡ these.head
-        → DeclareAll (grammar tokens.now) these.inside (map produced_by list.now)
+        → DeclareAll (grammar tokens.now).Shape these.inside (map produced_by list.now)
         → Accepts (judged_grammar tokens.now these) (map produced_by list.now)) }
     ensures fault { IfErr result (λ fault. (these : SectionLines) → head ≡ these.head
-        → DeclareAll (grammar tokens.now) these.inside (map produced_by list.now)
+        → DeclareAll (grammar tokens.now).Shape these.inside (map produced_by list.now)
         → IsFirstOf tokens.now these fault) }
 {
     let mut labels = Names::new(alloc);

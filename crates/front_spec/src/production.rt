@@ -1,8 +1,8 @@
 // Lines of a grammar section as productions, by their shape.
 ghost use Rattle.std.specs.Prelude.{◌≡◌, ◌∷◌, ℕ, List, length, map, codes, MatchOption, IfOk, IfErr};
-ghost use Rattle.spec_text.specs.Declares.{DeclareAll, IsFaultOfLine, LinesGrow, Says};
+ghost use Rattle.section_frame.specs.Declares.{DeclareAll, IsFaultOfLine, Says};
 ghost use Rattle.spec_text.specs.Lexemes.{Lexeme, sign, word};
-ghost use Rattle.spec_text.specs.Lines.{Line};
+ghost use Rattle.spec_text.specs.Lines.{Line, LinesGrow};
 ghost use Rattle.spec_text.specs.Sections.{SectionLines};
 ghost use Rattle.spec_text.specs.Seen.{bytes_of, seen};
 ghost use Rattle.spec_text.specs.Spans.{AreLinesOf, IsLineOf};
@@ -12,7 +12,8 @@ ghost use Rattle.front_spec.specs.GrammarSteps.{IsFirstOf, IsHeadOf, produced, p
 
 use bumpalo::Bump;
 use ck_base::{Kind, NoMemory, SpecFault};
-use spec_text::{SpecLine, Token, after_sign, after_word, name_of, tokens_in};
+use section_frame::{after_sign, after_word, name_of};
+use spec_text::{SpecLine, Token, tokens_in};
 use std::alloc::Global;
 
 /// The rule that the line of this number declares.
@@ -34,7 +35,7 @@ pub(crate) fn productions<'s>(
     requires { (are : List Line) × AreLinesOf spec.now lines.now are × LinesGrow are }
     ensures declared { IfOk result (λ list. (tokens : List (List ℕ)) (are : List Line)
         → AreLinesOf spec.now lines.now are
-        → DeclareAll (grammar tokens) are (map produced_by list.items)) }
+        → DeclareAll (grammar tokens).Shape are (map produced_by list.items)) }
     ensures few { IfOk result (λ list. length list.items ≡ length lines.now) }
     ensures fault { IfErr result (λ fault. (tokens : List (List ℕ)) (these : SectionLines)
         → AreLinesOf spec.now lines.now these.inside → LinesGrow these.inside
@@ -56,9 +57,9 @@ fn production_in<'s>(
 ) -> Result<Production<'s>, SpecFault>
     requires { (is : Line) × IsLineOf spec.now line.now is }
     ensures says { IfOk result (λ p. (tokens : List (List ℕ)) (is : Line)
-        → IsLineOf spec.now line.now is → Says (grammar tokens) is (produced_by p)) }
+        → IsLineOf spec.now line.now is → Says (grammar tokens).Shape is (produced_by p)) }
     ensures fault { IfErr result (λ fault. (tokens : List (List ℕ)) (is : Line)
-        → IsLineOf spec.now line.now is → IsFaultOfLine (grammar tokens) is fault) }
+        → IsLineOf spec.now line.now is → IsFaultOfLine (grammar tokens).Shape is fault) }
 {
     let number = line.number;
     if let Some(kind) = line.bad {

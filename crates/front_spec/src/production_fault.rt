@@ -1,8 +1,8 @@
 // The first fault of a grammar section, kind by kind.
 ghost use Rattle.std.specs.Prelude.{◌≡◌, ℕ, ◌+◌, ◌^◌, ◌<◌, ◌⊎◌, ◌↔◌, List, [], length, map, Contains, IsTrue, MatchOption, IfOk};
 ghost use Rattle.ck_base.specs.declared.fault.Kind.TheVariants.{Limit as limit, Twice as twice, Unknown as unknown};
-ghost use Rattle.spec_text.specs.Declares.{Grow, HasFault};
-ghost use Rattle.spec_text.specs.FirstFault.{Least};
+ghost use Rattle.section_frame.specs.Declares.{Grow, HasFault};
+ghost use Rattle.spec_text.specs.Least.{Least};
 ghost use Rattle.spec_text.specs.Seen.{bytes_of};
 ghost use Rattle.front_spec.specs.GrammarFaults.{grammar, labels_in, nonterminals_in};
 ghost use Rattle.front_spec.specs.GrammarSteps.{Exceeds, HasIn, HasNoSymbol, HasNone, IsAgain, IsTaken, produced, produced_by};

@@ -4,14 +4,15 @@ ghost use Rattle.rex_model.specs.Meaning.{meaning, sequence_of, alternative_of, 
 ghost use Rattle.spec_text.specs.Lexemes.{Lexeme};
 ghost use Rattle.spec_text.specs.Seen.{seen};
 ghost use Rattle.front_spec.specs.Seen.{sign_in, written_of};
-ghost use Rattle.spec_text.specs.Parts.{Anything, Fixed, NoReading, Reading};
+ghost use Rattle.section_frame.specs.Parts.{Anything, Fixed, NoReading, Reading};
 ghost use Rattle.front_spec.specs.Regexes.{Written, Leaf, AtomIn, PieceOver, RowOver, RegexIn, NotSign, EndsRow, EndsRegex, glyph_of, joined, with_sign, is_dot_byte};
 
 use bumpalo::Bump;
 use bumpalo::collections::into_bump_slice;
 use ck_base::NoMemory;
 use rex_model::Regex;
-use spec_text::{Token, after_sign, is_sign};
+use section_frame::{after_sign, is_sign};
+use spec_text::Token;
 use std::alloc::Global;
 
 /// An expression that was read, and its nesting.

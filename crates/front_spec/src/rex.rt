@@ -4,8 +4,8 @@ ghost use Rattle.rex_model.specs.Positions.{position_count};
 ghost use Rattle.rex_model.specs.RuleMeaning.{rules_of};
 ghost use Rattle.rex_model.specs.Rules.{Rule};
 ghost use Rattle.rex_model.specs.Sets.{marked_rules};
-ghost use Rattle.spec_text.specs.Declares.{DeclareAll, Grow, IsFirstFault, judged};
-ghost use Rattle.spec_text.specs.FirstFault.{Accepts};
+ghost use Rattle.section_frame.specs.Declares.{DeclareAll, Grow, IsFirstFault, judged};
+ghost use Rattle.section_frame.specs.FirstFault.{Accepts};
 ghost use Rattle.spec_text.specs.Lines.{Line};
 ghost use Rattle.spec_text.specs.Promise.{AreSectionsOf};
 ghost use Rattle.front_spec.specs.Promise.{DeclaresRules, IsRexFault};
@@ -68,10 +68,10 @@ fn states_of(alloc: Global, list: &[Declaration<'_, '_>]) -> Result<Names, SpecF
     requires grow { Grow (map declared_by list.now) }
     ensures states { IfOk result (λ names. names ≡ all_states (map declared_by list.now)) }
     ensures accepted { IfOk result (λ names. (lines : List Line)
-        → DeclareAll rex lines (map declared_by list.now)
+        → DeclareAll rex.Shape lines (map declared_by list.now)
         → Accepts (judged rex lines) (map declared_by list.now)) }
     ensures fault { IfErr result (λ fault. (lines : List Line)
-        → DeclareAll rex lines (map declared_by list.now) → IsFirstFault rex lines fault) }
+        → DeclareAll rex.Shape lines (map declared_by list.now) → IsFirstFault rex lines fault) }
 {
     let mut names = Names::new(alloc);
     names.intern(b"STD")?;

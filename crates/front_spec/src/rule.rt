@@ -2,7 +2,7 @@
 ghost use Rattle.std.specs.Prelude.{◌≡◌, List, [], map, MatchOption, IfOk, codes};
 ghost use Rattle.rex_model.specs.Meaning.{meaning};
 ghost use Rattle.spec_text.specs.Lexemes.{Lexeme, sign};
-ghost use Rattle.spec_text.specs.Parts.{Nothing, NoReading, NotFirst, Opt, Reading};
+ghost use Rattle.section_frame.specs.Parts.{Nothing, NoReading, NotFirst, Opt, Reading};
 ghost use Rattle.spec_text.specs.Seen.{name_in, seen};
 ghost use Rattle.front_spec.specs.Regexes.{EndsRegex};
 ghost use Rattle.front_spec.specs.RexShapes.{Action, Body, Context, Go, NoSlashEnds, Produces, RuleLine, SaidRule, Skips, States};
@@ -12,7 +12,8 @@ use crate::regexes::regex;
 use bumpalo::Bump;
 use ck_base::NoMemory;
 use rex_model::Regex;
-use spec_text::{Token, after_sign, after_word, name_of, names_of};
+use section_frame::{after_sign, after_word, name_of, names_of};
+use spec_text::Token;
 use std::alloc::Global;
 
 /// The states of a rule, where it has some, and what follows them.

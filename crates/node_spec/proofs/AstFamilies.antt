@@ -9,7 +9,7 @@ use Rattle.ast_types.specs.TypeTable.{Family}
 use Rattle.ck_base.specs.Numbered.{AreApart, met, number_of}
 use Rattle.ck_base.proofs.NameFound.{contained_at}
 use Rattle.ck_base.proofs.NamesMet.{met_new, met_known, none_where_absent}
-use Rattle.spec_text.specs.Declares.{Declared}
+use Rattle.section_frame.specs.Declares.{Declared}
 use Rattle.spec_text.proofs.Lists.{take_step, take_all, get_fits}
 use Rattle.node_spec.specs.AstShapes.{AstSaying, SaidItem, family, target, a_type, node, build}
 use Rattle.node_spec.specs.AstTables.{Row, family_then, families_in, family_names, rows_from, row_names, row_of, row_over, row_after, type_names, node_or, node_family, family_number, families_by}

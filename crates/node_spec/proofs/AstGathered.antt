@@ -5,7 +5,7 @@ use Rattle.std.proofs.lemmas.List.{append-nil, length-map}
 use Rattle.ast_types.specs.TypeTable.{Family}
 use Rattle.ck_base.specs.Numbered.{met}
 use Rattle.ck_base.proofs.NamesMet.{met-append, length-met}
-use Rattle.spec_text.specs.Declares.{Declared}
+use Rattle.section_frame.specs.Declares.{Declared}
 use Rattle.spec_text.proofs.Lists.{take_step, take_all, get_at, map_get}
 use Rattle.node_spec.specs.AstShapes.{AstSaying, family, target, a_type, node, build}
 use Rattle.node_spec.specs.AstTables.{family_then, families_in, family_names}

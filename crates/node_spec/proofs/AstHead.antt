@@ -1,7 +1,7 @@
 -- The head of a section stands before its lines.
 use Rattle.std.proofs.Common.{◌≡◌, ℕ, zero, suc, ◌+◌, ◌-◌, ◌<◌, List, [], ◌∷◌, take, drop, length, get_or, refl, Some, Contains, arith}
 use Rattle.std.specs.List.{slice_get}
-use Rattle.spec_text.specs.Declares.{Declared, DeclareAll, Notation, no_lines, one_line}
+use Rattle.section_frame.specs.Declares.{Declared, DeclareAll, Notation, no_lines, one_line}
 use Rattle.spec_text.specs.Lines.{Line}
 use Rattle.spec_text.specs.Promise.{HasSection}
 use Rattle.spec_text.specs.Sections.{SectionLines}
@@ -28,7 +28,7 @@ get_in_drop (y ∷ xs) (suc from) i x at =
 
 -- the line of what is declared
 line_of : (n : Notation AstSaying) (lines : List Line) (ds : List (Declared AstSaying)) (i : ℕ) (d : Declared AstSaying)
-    → DeclareAll n lines ds → slice_get ds i ≡ Some d
+    → DeclareAll n.Shape lines ds → slice_get ds i ≡ Some d
     → (line : Line) × (slice_get lines i ≡ Some line) × (d.number ≡ line.number)
 line_of n _ _ i d no_lines at = cc
 line_of n _ _ zero d (one_line line lines e ds says more) at =
@@ -56,7 +56,7 @@ line_behind file section these has i line at =
     let number = has.part_is.head in omega (arith, more, number)
 
 pub head_before : (file : List ℕ) (section : Section) (these : SectionLines) → HasSection file section these
-    → (n : Notation AstSaying) (head : ℕ) (ds : List (Declared AstSaying)) → head ≡ these.head → DeclareAll n these.inside ds
+    → (n : Notation AstSaying) (head : ℕ) (ds : List (Declared AstSaying)) → head ≡ these.head → DeclareAll n.Shape these.inside ds
     → IsBefore head ds
 head_before file section these has n head ds at_head all i d at =
     let it = line_of n these.inside ds i d all at in

@@ -8,9 +8,9 @@ use Rattle.value_store.specs.declared.value.ValType.TheVariants as ty
 use Rattle.ast_types.specs.Items.{child_families, child_then, field_then, field_types}
 use Rattle.ck_base.specs.declared.fault.Kind.TheVariants.{Limit}
 use Rattle.cfg_model.specs.declared.named.NamedGrammar.{NamedGrammar}
-use Rattle.spec_text.specs.Declares.{Declared, HasAt, Grow}
-use Rattle.spec_text.specs.FirstFault.{Least}
-use Rattle.spec_text.proofs.Frame.{NoneBefore, none_at_first, none_more, first_here}
+use Rattle.section_frame.specs.Declares.{Declared, HasAt, Grow}
+use Rattle.spec_text.specs.Least.{Least}
+use Rattle.section_frame.proofs.Frame.{NoneBefore, none_at_first, none_more, first_here}
 use Rattle.spec_text.proofs.Lists.{map_get, get_at, take_all}
 use Rattle.node_spec.specs.AstShapes.{AstSaying, SaidItem, family, target, a_type, node, build}
 use Rattle.node_spec.specs.AstTables.{Row, families_in, family_names, family_number, item_of, rows_in}

@@ -6,7 +6,7 @@ use Rattle.std.proofs.lemmas.List.Elements.{All-append, All-cons, All-nil}
 use Rattle.std.proofs.lemmas.Option.{none-some, slice_get_within}
 use Rattle.ck_base.specs.Numbered.{number_of}
 use Rattle.ck_base.proofs.NamesMet.{name_at_number}
-use Rattle.spec_text.specs.Declares.{Declared}
+use Rattle.section_frame.specs.Declares.{Declared}
 use Rattle.spec_text.proofs.Lists.{take_all}
 use Rattle.node_spec.specs.AstShapes.{AstSaying, SaidItem, family, target, a_type, node, build}
 use Rattle.node_spec.specs.AstTables.{Row, row_in, row_over, row_of, row_after, row_names, rows_from, rows_in}

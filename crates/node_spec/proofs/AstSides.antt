@@ -3,9 +3,9 @@ use Rattle.std.proofs.Common.{◌≡◌, ℕ, zero, suc, ◌+◌, ◌<◌, ◌�
 use Rattle.std.specs.List.{slice_get}
 use Rattle.std.proofs.lemmas.List.{length-map}
 use Rattle.ast_types.specs.TypeTable.{Family, family_at}
-use Rattle.spec_text.specs.Declares.{Declared, HasAt, Grow}
-use Rattle.spec_text.specs.FirstFault.{Least}
-use Rattle.spec_text.proofs.Frame.{NoneBefore, none_at_first, none_more, first_here}
+use Rattle.section_frame.specs.Declares.{Declared, HasAt, Grow}
+use Rattle.spec_text.specs.Least.{Least}
+use Rattle.section_frame.proofs.Frame.{NoneBefore, none_at_first, none_more, first_here}
 use Rattle.spec_text.proofs.Parting.{contains_at}
 use Rattle.spec_text.proofs.Lists.{order, map_get, get_at}
 use Rattle.node_spec.specs.AstShapes.{AstSaying, SaidItem, family, target, a_type, node, build}

@@ -3,7 +3,7 @@ use Rattle.std.proofs.Common.{◌≡◌, ℕ, inl, inr, List, [], ◌∷◌, tak
 use Rattle.ck_base.specs.Numbered.{AreApart}
 use Rattle.ck_base.specs.declared.fault.Kind.TheVariants.{Twice}
 use Rattle.cfg_model.specs.declared.named.NamedGrammar.{NamedGrammar}
-use Rattle.spec_text.specs.Declares.{Declared}
+use Rattle.section_frame.specs.Declares.{Declared}
 use Rattle.node_spec.specs.AstShapes.{AstSaying, family, target, a_type, node, build}
 use Rattle.node_spec.specs.AstFaults.{AstFault, named_again, second_node, second_build, reserved_name, reserved_item, item_twice, used_twice, DeclaresName, of_family, of_target, of_type, label_then, labels_in, name_then, names_in, node_then, nodes_in}
 use Rattle.node_spec.specs.declared.declared_again.Sort.TheVariants as sort

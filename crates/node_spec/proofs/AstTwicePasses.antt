@@ -5,9 +5,9 @@ use Rattle.std.proofs.lemmas.List.{length-map}
 use Rattle.ck_base.specs.Numbered.{AreApart, met}
 use Rattle.ck_base.proofs.NameFound.{place_of}
 use Rattle.ck_base.proofs.NamesMet.{met_apart, met_new, none_where_absent}
-use Rattle.spec_text.specs.Declares.{Declared, HasAt, Grow}
-use Rattle.spec_text.specs.FirstFault.{Least}
-use Rattle.spec_text.proofs.Frame.{NoneBefore, none_more, none_in_all, first_here}
+use Rattle.section_frame.specs.Declares.{Declared, HasAt, Grow}
+use Rattle.spec_text.specs.Least.{Least}
+use Rattle.section_frame.proofs.Frame.{NoneBefore, none_more, none_in_all, first_here}
 use Rattle.spec_text.proofs.Lists.{order, take_step, take_all, get_at, map_get}
 use Rattle.spec_text.proofs.Parting.{contains_at}
 use Rattle.node_spec.specs.AstShapes.{AstSaying, SaidItem, family, target, a_type}

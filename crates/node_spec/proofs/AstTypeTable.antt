@@ -10,7 +10,7 @@ use Rattle.ast_types.specs.declared.item.Item.{Item}
 use Rattle.ck_base.specs.Numbered.{number_of}
 use Rattle.ck_base.proofs.NameFound.{place_of}
 use Rattle.ck_base.proofs.NamesMet.{name_at_number}
-use Rattle.spec_text.specs.Declares.{Declared}
+use Rattle.section_frame.specs.Declares.{Declared}
 use Rattle.spec_text.proofs.Lists.{all_at, order, map_get, get_at, get_fits, take_all, take_step}
 use Rattle.node_spec.specs.AstShapes.{AstSaying, SaidItem, family, target, a_type, node, build}
 use Rattle.node_spec.specs.AstTables.{Row, families_in, family_names, family_number, family_then, item_of, row_after, row_in, row_names, row_of, row_over, rows_from, rows_in, type_of_row}

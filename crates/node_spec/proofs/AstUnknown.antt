@@ -5,9 +5,9 @@ use Rattle.std.proofs.lemmas.List.{length-map}
 use Rattle.ck_base.specs.Numbered.{met}
 use Rattle.ck_base.specs.declared.fault.Kind.TheVariants.{Unknown}
 use Rattle.cfg_model.specs.declared.named.NamedGrammar.{NamedGrammar}
-use Rattle.spec_text.specs.Declares.{Declared, Grow, HasAt}
-use Rattle.spec_text.specs.FirstFault.{Least}
-use Rattle.spec_text.proofs.Frame.{NoneBefore, none_at_first, none_more, first_here}
+use Rattle.section_frame.specs.Declares.{Declared, Grow, HasAt}
+use Rattle.spec_text.specs.Least.{Least}
+use Rattle.section_frame.proofs.Frame.{NoneBefore, none_at_first, none_more, first_here}
 use Rattle.spec_text.proofs.Lists.{order, map_get, get_at}
 use Rattle.spec_text.proofs.Parting.{contains_at}
 use Rattle.node_spec.specs.AstShapes.{AstSaying, SaidItem, family, target, a_type, node, build}

@@ -12,7 +12,7 @@ use Rattle.ck_base.proofs.NameFound.{contained_at}
 use Rattle.ck_base.proofs.NamesMet.{name_at_number}
 use Rattle.cfg_model.specs.Cfg.{Rule}
 use Rattle.cfg_model.specs.declared.named.NamedGrammar.{NamedGrammar}
-use Rattle.spec_text.specs.Declares.{Declared}
+use Rattle.section_frame.specs.Declares.{Declared}
 use Rattle.spec_text.proofs.Lists.{order, map_get, get_at, get_fits}
 use Rattle.spec_text.proofs.Parting.{contains_at, some_at}
 use Rattle.node_spec.specs.AstShapes.{AstSaying, family, target, a_type, node, build}

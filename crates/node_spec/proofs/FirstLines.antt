@@ -1,7 +1,7 @@
 -- First lines: with a fault that is the same by another word; the earlier of two is the first with either fault.
 use Rattle.std.proofs.Common.{◌≡◌, ℕ, ◌<◌, ◌≤◌, ◌⊎◌, inl, inr, min, List, subst, Option, Some, None, arith}
-use Rattle.spec_text.specs.Declares.{Declared, HasAt}
-use Rattle.spec_text.specs.FirstFault.{Least}
+use Rattle.section_frame.specs.Declares.{Declared, HasAt}
+use Rattle.spec_text.specs.Least.{Least}
 use Rattle.spec_text.proofs.Lists.{order}
 use Rattle.node_spec.specs.AstShapes.{AstSaying}
 use Rattle.node_spec.specs.within.AstSteps.{FirstWith, Either, earlier_of}

@@ -2,8 +2,8 @@
 use Rattle.std.proofs.Common.{◌≡◌, List, [], ◌∷◌, ◌++◌, map, refl, sym, ap, ◌∙◌}
 use Rattle.std.proofs.lemmas.List.{map-append}
 use Rattle.spec_text.specs.Lexemes.{Lexeme}
-use Rattle.spec_text.specs.Parts.{ListOf, Anything, Follow, NotFirst, NoReading, Reading}
-use Rattle.spec_text.proofs.Readings.{comma, ListSoFar, list_first, list_more, list_none}
+use Rattle.section_frame.specs.Parts.{ListOf, Anything, Follow, NotFirst, NoReading, Reading, comma}
+use Rattle.section_frame.proofs.Readings.{ListSoFar, list_first, list_more, list_none}
 use Rattle.node_spec.specs.AstShapes.{SaidItem, ItemPart}
 use Rattle.node_spec.specs.declared.ast_line.ItemText.{ItemText}
 use Rattle.node_spec.specs.within.AstSeen.{item_seen}

@@ -12,7 +12,7 @@ use Rattle.ck_base.specs.declared.fault.Kind.{Kind}
 use Rattle.ck_base.specs.declared.fault.Kind.TheVariants.{Typing}
 use Rattle.ck_base.proofs.NameFound.{place_of}
 use Rattle.ck_base.proofs.NamesMet.{length-met, met-append, met_has_number, name_at_number, none_where_absent}
-use Rattle.spec_text.specs.Declares.{Declared}
+use Rattle.section_frame.specs.Declares.{Declared}
 use Rattle.spec_text.proofs.Lists.{order, take_step, take_all, get_fits}
 use Rattle.node_spec.specs.AstShapes.{AstSaying, family, target, a_type, node, build}
 use Rattle.node_spec.specs.AstTables.{build_line, build_or, families_by}

@@ -3,7 +3,7 @@ use Rattle.std.proofs.Common.{◌≡◌, ℕ, zero, suc, ◌+◌, ◌<◌, ◌�
 use Rattle.ast_types.specs.Items.{field_types}
 use Rattle.ck_base.specs.declared.fault.Kind.TheVariants.{Limit}
 use Rattle.cfg_model.specs.declared.named.NamedGrammar.{NamedGrammar}
-use Rattle.spec_text.specs.Declares.{Declared}
+use Rattle.section_frame.specs.Declares.{Declared}
 use Rattle.node_spec.specs.AstShapes.{AstSaying, SaidItem, family, a_type}
 use Rattle.node_spec.specs.AstTables.{families_in, family_names, item_of}
 use Rattle.node_spec.specs.AstFaults.{AstFault, row_at, too_many_families, too_many_fields}

@@ -9,7 +9,7 @@ use Rattle.cfg_model.specs.declared.symbol.Sym.TheVariants.{N}
 use Rattle.ck_base.specs.Numbered.{number_of}
 use Rattle.ck_base.specs.declared.fault.Kind.{Kind}
 use Rattle.ck_base.specs.declared.fault.Kind.TheVariants.{Limit, Twice, Unknown, Typing}
-use Rattle.spec_text.specs.Declares.{Declared, Notation}
+use Rattle.section_frame.specs.Declares.{Declared, Notation}
 use Rattle.expr_read.specs.Spoken.{Spoken}
 use Rattle.expr_read.specs.Resolving.{dollars_in, has_unknown, resolved}
 use Rattle.node_spec.specs.AstShapes.{AstSaying, SaidItem, AstShape, family, target, a_type, node, build}

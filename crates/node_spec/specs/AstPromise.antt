@@ -4,8 +4,8 @@ use Rattle.ck_base.specs.declared.fault.Kind.{Kind}
 use Rattle.ck_base.specs.declared.fault.SpecFault.{SpecFault}
 use Rattle.ck_base.specs.declared.fault.SpecFault.TheVariants.{Bad, NoMemory}
 use Rattle.cfg_model.specs.declared.named.NamedGrammar.{NamedGrammar}
-use Rattle.spec_text.specs.Declares.{Declared, judged_at}
-use Rattle.spec_text.specs.FirstFault.{FirstFault, Accepts, Judged}
+use Rattle.section_frame.specs.Declares.{Declared, judged_at}
+use Rattle.section_frame.specs.FirstFault.{FirstFault, Accepts, Judged}
 use Rattle.spec_text.specs.Promise.{HasSection}
 use Rattle.spec_text.specs.Sections.{SectionLines}
 use Rattle.spec_text.specs.declared.section.Section.TheVariants.{Ast}

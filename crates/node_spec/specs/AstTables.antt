@@ -6,7 +6,7 @@ use Rattle.value_store.specs.declared.value.ValType.TheVariants as ty
 use Rattle.ast_types.specs.TypeTable.{Family, NodeType, TypeTable}
 use Rattle.ast_types.specs.declared.item.Item.{Item}
 use Rattle.ck_base.specs.Numbered.{number_of}
-use Rattle.spec_text.specs.Declares.{Declared}
+use Rattle.section_frame.specs.Declares.{Declared}
 use Rattle.expr_read.specs.Spoken.{Spoken}
 use Rattle.node_spec.specs.AstShapes.{AstSaying, SaidItem, family, target, a_type, node, build}
 

@@ -1,6 +1,6 @@
 -- How many bytes the strings of AST's lines have: so many its reader puts behind the literals.
 use Rattle.std.specs.Prelude.{ℕ, ◌+◌, List, [], ◌∷◌}
-use Rattle.spec_text.specs.Declares.{Declared}
+use Rattle.section_frame.specs.Declares.{Declared}
 use Rattle.expr_read.specs.Strings.{string_bytes}
 use Rattle.node_spec.specs.AstShapes.{AstSaying, family, target, a_type, node, build}
 

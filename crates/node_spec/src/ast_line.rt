@@ -1,8 +1,8 @@
 // Lines of the section AST, by their shapes.
 ghost use Rattle.std.specs.Prelude.{◌≡◌, List, length, map, IfOk, IfErr};
 ghost use Rattle.cfg_model.specs.declared.named.NamedGrammar.{NamedGrammar as named_grammar};
-ghost use Rattle.spec_text.specs.Declares.{DeclareAll, IsFaultOfLine, LinesGrow, Says};
-ghost use Rattle.spec_text.specs.Lines.{Line};
+ghost use Rattle.section_frame.specs.Declares.{DeclareAll, IsFaultOfLine, Says};
+ghost use Rattle.spec_text.specs.Lines.{Line, LinesGrow};
 ghost use Rattle.spec_text.specs.Sections.{SectionLines};
 ghost use Rattle.spec_text.specs.Spans.{AreLinesOf, IsLineOf};
 ghost use Rattle.node_spec.specs.AstFaults.{ast};
@@ -54,7 +54,7 @@ pub(crate) fn ast_lines<'s>(
     requires { (are : List Line) × AreLinesOf spec.now lines.now are × LinesGrow are }
     ensures declared { IfOk result (λ list. (g : named_grammar) (are : List Line)
         → AreLinesOf spec.now lines.now are
-        → DeclareAll (ast g) are (map declared_by list.items)) }
+        → DeclareAll (ast g).Shape are (map declared_by list.items)) }
     ensures few { IfOk result (λ list. length list.items ≡ length lines.now) }
     ensures fault { IfErr result (λ fault. (g : named_grammar) (these : SectionLines)
         → AreLinesOf spec.now lines.now these.inside → LinesGrow these.inside
@@ -76,9 +76,9 @@ fn line_in<'s>(
 ) -> Result<AstLine<'s>, SpecFault>
     requires { (is : Line) × IsLineOf spec.now line.now is }
     ensures says { IfOk result (λ said. (g : named_grammar) (is : Line)
-        → IsLineOf spec.now line.now is → Says (ast g) is (declared_by said)) }
+        → IsLineOf spec.now line.now is → Says (ast g).Shape is (declared_by said)) }
     ensures fault { IfErr result (λ fault. (g : named_grammar) (is : Line)
-        → IsLineOf spec.now line.now is → IsFaultOfLine (ast g) is fault) }
+        → IsLineOf spec.now line.now is → IsFaultOfLine (ast g).Shape is fault) }
 {
     let number = line.number;
     if let Some(kind) = line.bad {

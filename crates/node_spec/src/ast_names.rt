@@ -2,7 +2,7 @@
 ghost use Rattle.std.specs.Prelude.{◌≡◌, ◌+◌, ◌<◌, ◌^◌, ℕ, length, map, IfOk, IfErr};
 ghost use Rattle.ck_base.specs.declared.fault.Kind.TheVariants.{Twice as twice, Unknown as unknown};
 ghost use Rattle.ck_base.specs.Numbered.{AreApart};
-ghost use Rattle.spec_text.specs.Declares.{DeclareAll, Grow};
+ghost use Rattle.section_frame.specs.Declares.{DeclareAll, Grow};
 ghost use Rattle.spec_text.specs.Sections.{SectionLines};
 ghost use Rattle.node_spec.specs.AstFaults.{ast, labels_in};
 ghost use Rattle.node_spec.specs.AstTables.{rows_in};
@@ -45,7 +45,7 @@ pub(crate) fn declared_names<'s>(
     ensures unknown { IfOk result (λ names. (line : ℕ)
         → HasIn g.now head (map declared_by list.now) unknown line → ⊥) }
     ensures fault { IfErr result (λ fault. (these : SectionLines) → head ≡ these.head
-        → DeclareAll (ast g.now) these.inside (map declared_by list.now)
+        → DeclareAll (ast g.now).Shape these.inside (map declared_by list.now)
         → IsFirstOf g.now these fault) }
 {
     let rows = rows_of(alloc, list)?;

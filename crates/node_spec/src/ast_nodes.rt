@@ -4,8 +4,8 @@ ghost use Rattle.cfg_model.specs.Cfg.{IsGrammar};
 ghost use Rattle.ck_base.specs.Numbered.{AreApart};
 ghost use Rattle.ck_base.specs.declared.fault.Kind.TheVariants.{Twice as twice, Typing as typing, Unknown as unknown};
 ghost use Rattle.expr_lang.specs.Meaning.{meaning};
-ghost use Rattle.spec_text.specs.Declares.{DeclareAll, Grow};
-ghost use Rattle.spec_text.specs.FirstFault.{Accepts};
+ghost use Rattle.section_frame.specs.Declares.{DeclareAll, Grow};
+ghost use Rattle.section_frame.specs.FirstFault.{Accepts};
 ghost use Rattle.spec_text.specs.Sections.{SectionLines};
 ghost use Rattle.node_spec.specs.AstBuilds.{builds_from, nodes_by};
 ghost use Rattle.node_spec.specs.AstFaults.{ast, labels_in};
@@ -63,10 +63,10 @@ pub(crate) fn declared_nodes<'a>(
         ≡ nodes_by g.now (map declared_by list.now)) }
     ensures all { IfOk result (λ nodes. AllBuild g.now (map declared_by list.now)) }
     ensures accepted { IfOk result (λ nodes. (these : SectionLines) → head ≡ these.head
-        → DeclareAll (ast g.now) these.inside (map declared_by list.now)
+        → DeclareAll (ast g.now).Shape these.inside (map declared_by list.now)
         → Accepts (judged_ast g.now these) (map declared_by list.now)) }
     ensures fault { IfErr result (λ fault. (these : SectionLines) → head ≡ these.head
-        → DeclareAll (ast g.now) these.inside (map declared_by list.now)
+        → DeclareAll (ast g.now).Shape these.inside (map declared_by list.now)
         → IsFirstOf g.now these fault) }
     ensures grew { Grew literals.old literals.new }
     ensures few { length literals.new ≤ length literals.old

@@ -5,7 +5,7 @@ ghost use Rattle.ck_base.specs.Numbered.{AreApart};
 ghost use Rattle.ck_base.specs.declared.fault.Kind.TheVariants.{Typing as typing, Unknown as unknown};
 ghost use Rattle.expr_lang.specs.Expression.{Expression, var};
 ghost use Rattle.expr_lang.specs.Meaning.{meaning};
-ghost use Rattle.spec_text.specs.Declares.{Grow};
+ghost use Rattle.section_frame.specs.Declares.{Grow};
 ghost use Rattle.node_spec.specs.AstBuilds.{builds_from, default_build, nodes_by, only_nonterminal as the_only, rule_builds};
 ghost use Rattle.node_spec.specs.AstFaults.{AstHeadFault, labels_in};
 ghost use Rattle.value_store.specs.Texts.{Grew};

@@ -1,7 +1,7 @@
 // The first line that declares a name again.
 ghost use Rattle.std.specs.Prelude.{◌≡◌, ◌+◌, ◌<◌, ◌^◌, length, map, IfOk, MatchOption, None, Some};
 ghost use Rattle.ck_base.specs.Numbered.{AreApart};
-ghost use Rattle.spec_text.specs.Declares.{Grow};
+ghost use Rattle.section_frame.specs.Declares.{Grow};
 ghost use Rattle.node_spec.specs.declared.declared_again.Sort.TheVariants.{Declared as declared, Label as label, Nonterminal as nonterminal};
 ghost use Rattle.node_spec.specs.within.AstSeen.{declared_by, saying_seen};
 ghost use Rattle.node_spec.specs.within.AstSteps.{FirstWith};

@@ -1,7 +1,7 @@
 // Families in order of declaration, and those of nonterminals.
 ghost use Rattle.std.specs.Prelude.{◌≡◌, ◌+◌, ◌<◌, ◌^◌, ◌++◌, ◌∷◌, [], List, length, map, IfOk, OnOk};
 ghost use Rattle.ck_base.specs.Numbered.{AreApart, met};
-ghost use Rattle.spec_text.specs.Declares.{Declared};
+ghost use Rattle.section_frame.specs.Declares.{Declared};
 ghost use Rattle.node_spec.specs.AstFaults.{names_in};
 ghost use Rattle.node_spec.specs.AstShapes.{AstSaying};
 ghost use Rattle.node_spec.specs.AstTables.{families_by, family_number, family_then, type_names};

@@ -1,6 +1,6 @@
 // The first line whose items repeat a name.
 ghost use Rattle.std.specs.Prelude.{◌≡◌, ◌+◌, ◌<◌, ◌^◌, ◌↔◌, List, length, map, IsTrue, IfOk};
-ghost use Rattle.spec_text.specs.Declares.{Grow};
+ghost use Rattle.section_frame.specs.Declares.{Grow};
 ghost use Rattle.node_spec.specs.AstTables.{Row, row_after, rows_in};
 ghost use Rattle.node_spec.specs.within.AstSeen.{declared_by, item_seen, row_seen, saying_seen};
 ghost use Rattle.node_spec.specs.within.AstSteps.{FirstWith};

@@ -3,8 +3,8 @@ ghost use Rattle.std.specs.Prelude.{◌≡◌, ◌+◌, ◌<◌, ◌^◌, ◌↔
 ghost use Rattle.ast_types.specs.Items.{child_families};
 ghost use Rattle.cfg_model.specs.declared.named.NamedGrammar.{NamedGrammar as named_grammar};
 ghost use Rattle.ck_base.specs.declared.fault.Kind.TheVariants.{Limit as limit};
-ghost use Rattle.spec_text.specs.Declares.{Grow, HasFault};
-ghost use Rattle.spec_text.specs.FirstFault.{Least};
+ghost use Rattle.section_frame.specs.Declares.{Grow, HasFault};
+ghost use Rattle.spec_text.specs.Least.{Least};
 ghost use Rattle.node_spec.specs.AstFaults.{ast, item_words};
 ghost use Rattle.node_spec.specs.AstTables.{item_of, rows_in};
 ghost use Rattle.node_spec.specs.within.AstSeen.{declared_by, item_seen, row_seen, saying_seen};

@@ -1,7 +1,7 @@
 // Items of a type's line.
 ghost use Rattle.std.specs.Prelude.{◌≡◌, ◌↔◌, ◌∷◌, [], ℕ, List, map, codes, IsTrue, MatchOption, IfOk};
 ghost use Rattle.spec_text.specs.Lexemes.{Lexeme, sign};
-ghost use Rattle.spec_text.specs.Parts.{ListOf, NoReading, NotFirst, Reading};
+ghost use Rattle.section_frame.specs.Parts.{ListOf, NoReading, NotFirst, Reading};
 ghost use Rattle.spec_text.specs.Seen.{seen};
 ghost use Rattle.node_spec.specs.AstShapes.{ItemPart, ItemsPart, SaidItem};
 ghost use Rattle.node_spec.specs.within.AstSeen.{item_seen};
@@ -11,7 +11,8 @@ use crate::ast_line::ItemText;
 use bumpalo::Bump;
 use bumpalo::collections::into_bump_slice;
 use ck_base::NoMemory;
-use spec_text::{Token, after_sign, is_sign, name_of};
+use section_frame::{after_sign, is_sign, name_of};
+use spec_text::Token;
 use std::alloc::Global;
 
 /// The items of a type, which end with its line's last token, `)`.

@@ -14,7 +14,8 @@ use crate::line_items::items_within;
 use bumpalo::Bump;
 use ck_base::NoMemory;
 use expr_read::{Written, read_written};
-use spec_text::{Token, after_sign, after_word, name_of};
+use section_frame::{after_sign, after_word, name_of};
+use spec_text::Token;
 use std::alloc::Global;
 
 /// What the tokens of a whole line declare.

@@ -1,6 +1,6 @@
 // NODE lines gathered: the family of each nonterminal.
 ghost use Rattle.std.specs.Prelude.{◌≡◌, ◌+◌, ◌<◌, ◌^◌, List, length, map, IfOk, OnOk};
-ghost use Rattle.spec_text.specs.Declares.{Declared};
+ghost use Rattle.section_frame.specs.Declares.{Declared};
 ghost use Rattle.node_spec.specs.AstShapes.{AstSaying, node};
 ghost use Rattle.node_spec.specs.within.AstSeen.{declared_by, saying_seen};
 ghost use Rattle.node_spec.specs.within.AstUnknown.{AreNodes, NotesNode, family_after};

@@ -1,6 +1,6 @@
 // The first line that declares a reserved word.
 ghost use Rattle.std.specs.Prelude.{◌≡◌, ◌↔◌, ◌⊎◌, ℕ, length, map, Contains, IsTrue};
-ghost use Rattle.spec_text.specs.Declares.{Grow};
+ghost use Rattle.section_frame.specs.Declares.{Grow};
 ghost use Rattle.spec_text.specs.Seen.{bytes_of};
 ghost use Rattle.node_spec.specs.AstFaults.{reserved_words};
 ghost use Rattle.node_spec.specs.AstShapes.{SaidItem};

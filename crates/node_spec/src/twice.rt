@@ -2,8 +2,8 @@
 ghost use Rattle.std.specs.Prelude.{◌≡◌, ◌+◌, ◌<◌, ◌^◌, length, map, IfOk, MatchOption};
 ghost use Rattle.ck_base.specs.Numbered.{AreApart};
 ghost use Rattle.ck_base.specs.declared.fault.Kind.TheVariants.{Twice as twice};
-ghost use Rattle.spec_text.specs.Declares.{Grow, HasFault};
-ghost use Rattle.spec_text.specs.FirstFault.{Least};
+ghost use Rattle.section_frame.specs.Declares.{Grow, HasFault};
+ghost use Rattle.spec_text.specs.Least.{Least};
 ghost use Rattle.node_spec.specs.AstFaults.{ast, labels_in, names_in};
 ghost use Rattle.node_spec.specs.AstTables.{rows_in};
 ghost use Rattle.node_spec.specs.within.AstSeen.{declared_by, row_seen};

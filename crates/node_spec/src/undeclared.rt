@@ -1,8 +1,8 @@
 // The first line that names what isn't declared.
 ghost use Rattle.std.specs.Prelude.{◌≡◌, ◌+◌, ◌<◌, ◌^◌, ℕ, length, map, IfOk, MatchOption};
 ghost use Rattle.ck_base.specs.declared.fault.Kind.TheVariants.{Unknown as unknown};
-ghost use Rattle.spec_text.specs.Declares.{Grow};
-ghost use Rattle.spec_text.specs.FirstFault.{Least};
+ghost use Rattle.section_frame.specs.Declares.{Grow};
+ghost use Rattle.spec_text.specs.Least.{Least};
 ghost use Rattle.node_spec.specs.AstTables.{type_names};
 ghost use Rattle.node_spec.specs.within.AstSeen.{declared_by};
 ghost use Rattle.node_spec.specs.within.AstSteps.{AreFamilies, HasIn, IsBefore};

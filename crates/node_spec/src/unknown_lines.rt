@@ -1,6 +1,6 @@
 // The first line that names an unknown base, family, item type, nonterminal or maker.
 ghost use Rattle.std.specs.Prelude.{◌≡◌, ◌+◌, ◌<◌, ◌^◌, ◌↔◌, length, map, Contains, IfOk, IsTrue};
-ghost use Rattle.spec_text.specs.Declares.{Grow};
+ghost use Rattle.section_frame.specs.Declares.{Grow};
 ghost use Rattle.node_spec.specs.within.AstSeen.{declared_by, item_seen, saying_seen};
 ghost use Rattle.node_spec.specs.within.AstSteps.{FirstWith};
 ghost use Rattle.node_spec.specs.within.AstUnknown.{BaseFault, BuildFault, HasNoBase, HasNoItemType, HasUnknownItem, IsItemWord, IsUnknownBuild, IsUnknownNode, IsUnknownType, ItemFault, NodeFault};

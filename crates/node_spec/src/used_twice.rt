@@ -1,7 +1,7 @@
 // The first BUILD line that uses a value twice.
 ghost use Rattle.std.specs.Prelude.{◌≡◌, ◌+◌, ◌↔◌, ℕ, length, map, IsTrue, IfOk, MatchOption};
 ghost use Rattle.cfg_model.specs.Cfg.{Rule};
-ghost use Rattle.spec_text.specs.Declares.{Grow};
+ghost use Rattle.section_frame.specs.Declares.{Grow};
 ghost use Rattle.node_spec.specs.AstFaults.{IsRuleOf};
 ghost use Rattle.node_spec.specs.within.AstSeen.{declared_by, saying_seen};
 ghost use Rattle.node_spec.specs.within.AstSteps.{FirstWith};

@@ -3,7 +3,7 @@ ghost use Rattle.std.specs.Prelude.{◌≡◌, ◌+◌, ◌<◌, ◌^◌, ℕ, L
 ghost use Rattle.cfg_model.specs.Cfg.{IsGrammar};
 ghost use Rattle.ck_base.specs.declared.fault.Kind.TheVariants.{Typing as typing};
 ghost use Rattle.ck_base.specs.Numbered.{met, number_of};
-ghost use Rattle.spec_text.specs.Declares.{Declared, Grow};
+ghost use Rattle.section_frame.specs.Declares.{Declared, Grow};
 ghost use Rattle.node_spec.specs.AstFaults.{AstHeadFault, is_target, label_then, labels_in};
 ghost use Rattle.node_spec.specs.AstShapes.{AstSaying};
 ghost use Rattle.node_spec.specs.AstTables.{families_by, rows_in};

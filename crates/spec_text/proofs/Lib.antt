@@ -12,17 +12,13 @@ mod TokensSoFar
 mod FirstLine
 mod LinesSoFar
 mod SectionLines
-pub mod Readings
-pub mod One
 pub mod PassedOn
 pub mod Lists
 pub mod Views
 pub mod OneFile
 pub mod OneSections
 mod Spelled
-pub mod Names
-pub mod OneFault
-pub mod Frame
+pub mod Least
 pub mod Numbers
 pub mod Sizes
 pub mod Others
@@ -32,5 +28,3 @@ pub mod SomeSections
 pub mod SectionExamples
 mod Examples
 mod LineExamples
-mod FaultExamples
-pub mod KindOrder

@@ -4,10 +4,9 @@ use Rattle.std.specs.List.{slice_get}
 use Rattle.ck_base.specs.declared.fault.Kind.{Kind}
 use Rattle.spec_text.specs.Reading.{Placed}
 use Rattle.spec_text.specs.TextLines.{TextLine, TextLines, no_lines, ended, unended}
-use Rattle.spec_text.specs.Lines.{Line, ReadLines, none_read, silent, speaks, FileLines}
+use Rattle.spec_text.specs.Lines.{Line, ReadLines, none_read, silent, speaks, FileLines, LinesGrow}
 use Rattle.spec_text.specs.Sections.{SectionLines}
 use Rattle.spec_text.specs.Promise.{HasSection}
-use Rattle.spec_text.specs.Declares.{LinesGrow}
 use Rattle.spec_text.specs.declared.section.Section.{Section}
 
 -- each line has at least this number

@@ -1,13 +1,13 @@
 -- A file has sections or a first section fault: it can't be that there is neither. With sections it has REX.
 use Rattle.std.proofs.Common.{ℕ, ◌+◌, ◌-◌, ◌<◌, List, length, take, drop, refl, arith}
 use Rattle.ck_base.specs.Found.{HasNo}
-use Rattle.spec_text.specs.FirstFault.{Least}
+use Rattle.spec_text.specs.Least.{Least}
 use Rattle.spec_text.specs.Lines.{Line}
 use Rattle.spec_text.specs.Sections.{Breaks, SectionFault, breaks, unclosed, SectionLines}
 use Rattle.spec_text.specs.Promise.{HasSections, HasSection, FirstSectionFault}
 use Rattle.spec_text.specs.declared.section.Section.TheVariants.{Rex}
 use Rattle.spec_text.specs.declared.section.Part.{Part}
-use Rattle.spec_text.proofs.OneFault.{no_least}
+use Rattle.spec_text.proofs.Least.{no_least}
 use Rattle.spec_text.proofs.Parting.{part_fits, contains_at, some_at, first_part}
 use Rattle.spec_text.proofs.SomeReading.{some_lines}
 

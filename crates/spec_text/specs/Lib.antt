@@ -10,9 +10,7 @@ pub mod Sizes
 pub mod Sections
 pub mod Promise
 pub mod Seen
-pub mod Parts
-pub mod FirstFault
-pub mod Declares
+pub mod Least
 pub mod Laws
 pub mod Steps
 pub mod SectionSteps

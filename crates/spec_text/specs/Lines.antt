@@ -1,5 +1,5 @@
 -- The lines of a file that have tokens, and the bad ones.
-use Rattle.std.specs.Prelude.{◌≡◌, ℕ, List, [], ◌∷◌, length, map, Option, None}
+use Rattle.std.specs.Prelude.{◌≡◌, ℕ, ◌<◌, List, [], ◌∷◌, length, map, Option, Some, None, slice_get}
 use Rattle.ck_base.specs.declared.fault.Kind.{Kind}
 use Rattle.spec_text.specs.Lexemes.{Lexeme}
 use Rattle.spec_text.specs.Reading.{Placed, Reads}
@@ -35,3 +35,9 @@ pub record FileLines (file : List ℕ) (lines : List Line) (count : ℕ) : Type 
   pub are : TextLines 1 0 file texts
   pub read : ReadLines texts lines
   pub all : count ≡ length texts
+
+-- the numbers of lines grow
+abbrev pub LinesGrow : List Line → Type 0
+LinesGrow lines =
+    (i j : ℕ) (a b : Line) → slice_get lines i ≡ Some a → slice_get lines j ≡ Some b → i < j
+    → a.number < b.number

@@ -1,5 +1,4 @@
-//! A specification's lines, their tokens and the sections that they stand in; and what the readers of
-//! sections share: parts of a line, and the first fault of a section.
+//! A specification's lines, their tokens and the sections that they stand in.
 //!
 //! | what | file |
 //! |---|---|
@@ -10,8 +9,7 @@
 //! | the order of sections, and its first fault | `specs/Sections.antt`; `src/order.rt` |
 //! | what `sections` gives | `specs/Promise.antt`, `specs/Spans.antt`; `src/read.rt` |
 //! | a line's tokens by what they say | `specs/Seen.antt`; `src/view.rt` |
-//! | parts of a line, of which shapes are made | `specs/Parts.antt`; `src/part.rt` |
-//! | a section's first fault, and its declarations | `specs/FirstFault.antt`, `specs/Declares.antt` |
+//! | the least number with a property, for a first line | `specs/Least.antt` |
 //! | laws | `specs/Laws.antt`; `src/laws.rt` |
 #![tactic(auto)]
 
@@ -20,7 +18,6 @@ mod class;
 mod laws;
 mod line;
 mod order;
-mod part;
 mod read;
 mod section;
 mod text;
@@ -32,7 +29,6 @@ pub use laws::{
     at_most_one_section_fault, one_token_begins, some_file, some_order, some_reading, some_rex,
 };
 pub use line::SpecLine;
-pub use part::{after_sign, after_word, is_sign, is_word, name_of, names_of, number_of, text_of};
 pub use read::{first_other, rex_of, section_of, sections};
 pub use section::{Part, Section, SectionText, Sections};
 pub use token::{SpecSort, SpecToken};

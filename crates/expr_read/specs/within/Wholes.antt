@@ -5,7 +5,7 @@ use Rattle.std.specs.Str.{bytes_eq}
 use Rattle.expr_lang.specs.declared.expr.Op.{Op}
 use Rattle.spec_text.specs.Lexemes as lex
 use Rattle.spec_text.specs.Lexemes.{Lexeme, word, sign}
-use Rattle.spec_text.specs.Parts.{Part, NotFirst}
+use Rattle.section_frame.specs.Parts.{Part, NotFirst}
 use Rattle.expr_read.specs.declared.prefix.Prefix.{Prefix}
 use Rattle.expr_read.specs.declared.prefix.Prefix.TheVariants as prefix
 use Rattle.expr_read.specs.Spoken.{Spoken, SpokenList, number, truth, string, name, dollar, pair, negative, negated, binary, if_then, applied, grouped, no_spoken, and_spoken, nesting, deepest}

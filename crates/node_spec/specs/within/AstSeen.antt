@@ -1,6 +1,6 @@
 -- What the lines of the program declare. Only contracts within the crate cite these.
 use Rattle.std.specs.Prelude.{map}
-use Rattle.spec_text.specs.Declares.{Declared}
+use Rattle.section_frame.specs.Declares.{Declared}
 use Rattle.node_spec.specs.AstShapes.{AstSaying, SaidItem, family, target, a_type, node, build}
 use Rattle.node_spec.specs.AstTables.{Row}
 use Rattle.node_spec.specs.declared.ast_line.AstLine.{AstLine}

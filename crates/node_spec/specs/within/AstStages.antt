@@ -4,8 +4,8 @@ use Rattle.ck_base.specs.declared.fault.Kind.TheVariants.{Typing}
 use Rattle.ck_base.specs.declared.fault.SpecFault.{SpecFault}
 use Rattle.ck_base.specs.declared.fault.SpecFault.TheVariants.{Bad, NoMemory}
 use Rattle.cfg_model.specs.declared.named.NamedGrammar.{NamedGrammar}
-use Rattle.spec_text.specs.Declares.{Declared}
-use Rattle.spec_text.specs.FirstFault.{Least}
+use Rattle.section_frame.specs.Declares.{Declared}
+use Rattle.spec_text.specs.Least.{Least}
 use Rattle.node_spec.specs.AstShapes.{AstSaying}
 use Rattle.node_spec.specs.within.AstSteps.{HasIn}
 

@@ -5,7 +5,7 @@ use Rattle.cfg_model.specs.declared.named.NamedGrammar.{NamedGrammar}
 use Rattle.cfg_model.specs.declared.symbol.Sym.{Sym}
 use Rattle.cfg_model.specs.declared.symbol.Sym.TheVariants.{N}
 use Rattle.ck_base.specs.Numbered.{number_of}
-use Rattle.spec_text.specs.Declares.{Declared}
+use Rattle.section_frame.specs.Declares.{Declared}
 use Rattle.node_spec.specs.AstShapes.{AstSaying, SaidItem, family, target, a_type, node, build}
 use Rattle.node_spec.specs.AstFaults.{DeclaresName, IsRuleOf, IsTwice, reserved_words, row_at}
 use Rattle.node_spec.specs.AstTables.{Row}

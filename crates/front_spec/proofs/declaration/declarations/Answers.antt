@@ -1,8 +1,8 @@
 -- Each turn looks at one line.
 use Rattle.std.proofs.Common.{refl, ap, map, ◌∙◌, ◌∷◌, [], rules, arith}
 use Rattle.std.proofs.lemmas.List.{map-append}
-use Rattle.spec_text.specs.Declares.{no_lines}
-use Rattle.spec_text.proofs.Frame.{declare_more, first_shapeless}
+use Rattle.section_frame.specs.Declares.{no_lines}
+use Rattle.section_frame.proofs.Frame.{declare_more, first_shapeless}
 use Rattle.spec_text.proofs.Lists.{get_at, take_all}
 use Rattle.spec_text.proofs.PassedOn.{passed_on}
 use Rattle.spec_text.proofs.Views.{line_at, as_many}
@@ -31,7 +31,7 @@ loop-line-preserved c = (
   λ are is.
       let here = line_at _ _ are c.loop-line.line-index _ is
       (rw c.line-item.is (get_at c.args.lines.now c.loop-line.line-index _ c.loop-line-test.true)) in
-      declare_more rex are c.loop-line.line-index here.there _ _ (declared_by c.in_ok-declared_in.field-0) here.at (c.loop-line.invariant.0 are is)
+      declare_more rex.Shape are c.loop-line.line-index here.there _ _ (declared_by c.in_ok-declared_in.field-0) here.at (c.loop-line.invariant.0 are is)
       (c.in_ok-declared_in.ensures.says here.there here.is)
       (ap (λ l. map declared_by l) c.in_ok-push.ensures.items ∙ map-append declared_by c.loop-line.list.items (c.in_ok-declared_in.field-0 ∷ [])),
   (search rules),

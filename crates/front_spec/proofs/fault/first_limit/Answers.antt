@@ -1,5 +1,5 @@
 -- Each turn counts one line.
-use Rattle.spec_text.proofs.Frame.{none_in_all}
+use Rattle.section_frame.proofs.Frame.{none_in_all}
 use Rattle.front_spec.specs.Seen.{declared_by}
 use Rattle.front_spec.proofs.Passes.{declared_at, at_end, step_limit, found_limit}
 use Rattle.front_spec.proofs.fault.first_limit.Goals as goal

@@ -1,5 +1,5 @@
 -- Each turn looks at one line.
-use Rattle.spec_text.proofs.Frame.{first_here, none_more, none_in_all}
+use Rattle.section_frame.proofs.Frame.{first_here, none_more, none_in_all}
 use Rattle.front_spec.specs.Seen.{declared_by}
 use Rattle.front_spec.proofs.Passes.{declared_at, at_end, unknown_at, is_unknown_at}
 use Rattle.front_spec.proofs.fault.first_unknown.Goals as goal

@@ -1,7 +1,7 @@
 -- No rule so far names a state that isn't there.
 use Rattle.std.proofs.Common.{map}
 use Rattle.ck_base.specs.declared.fault.Kind.TheVariants.{Unknown}
-use Rattle.spec_text.proofs.Frame.{NoneBefore}
+use Rattle.section_frame.proofs.Frame.{NoneBefore}
 use Rattle.front_spec.specs.Seen.{declared_by}
 use Rattle.front_spec.specs.RexFaults.{RexFault}
 use Rattle.front_spec.proofs.fault.first_unknown.Given as goal

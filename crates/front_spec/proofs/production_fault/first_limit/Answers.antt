@@ -1,6 +1,6 @@
 -- Each turn counts one rule.
 use Rattle.std.proofs.Common.{refl}
-use Rattle.spec_text.proofs.Frame.{none_in_all}
+use Rattle.section_frame.proofs.Frame.{none_in_all}
 use Rattle.front_spec.specs.GrammarSteps.{produced_by}
 use Rattle.front_spec.proofs.ProductionPasses.{produced_at, at_end, step_limit, found_limit}
 use Rattle.front_spec.proofs.production_fault.first_limit.Goals as goal

@@ -1,5 +1,5 @@
 -- Each turn looks at one rule.
-use Rattle.spec_text.proofs.Frame.{first_here, none_more, none_in_all}
+use Rattle.section_frame.proofs.Frame.{first_here, none_more, none_in_all}
 use Rattle.front_spec.specs.GrammarSteps.{produced_by}
 use Rattle.front_spec.proofs.ProductionPasses.{produced_at, at_end, unknown_at, is_unknown_at}
 use Rattle.front_spec.proofs.production_fault.first_without_symbol.Goals as goal

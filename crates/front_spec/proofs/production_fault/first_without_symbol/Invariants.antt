@@ -1,7 +1,7 @@
 -- The rules so far have symbols alone.
 use Rattle.std.proofs.Common.{map}
 use Rattle.ck_base.specs.declared.fault.Kind.TheVariants.{Unknown}
-use Rattle.spec_text.proofs.Frame.{NoneBefore}
+use Rattle.section_frame.proofs.Frame.{NoneBefore}
 use Rattle.front_spec.specs.GrammarFaults.{GrammarFault}
 use Rattle.front_spec.specs.GrammarSteps.{produced_by}
 use Rattle.front_spec.proofs.production_fault.first_without_symbol.Given as goal

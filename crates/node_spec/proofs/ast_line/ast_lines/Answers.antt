@@ -1,8 +1,8 @@
 -- Each turn looks at one line.
 use Rattle.std.proofs.Common.{refl, ap, map, ◌∙◌, ◌∷◌, [], rules, arith}
 use Rattle.std.proofs.lemmas.List.{map-append}
-use Rattle.spec_text.specs.Declares.{no_lines}
-use Rattle.spec_text.proofs.Frame.{declare_more}
+use Rattle.section_frame.specs.Declares.{no_lines}
+use Rattle.section_frame.proofs.Frame.{declare_more}
 use Rattle.spec_text.proofs.Lists.{get_at, take_all}
 use Rattle.spec_text.proofs.PassedOn.{passed_on}
 use Rattle.spec_text.proofs.Views.{line_at, as_many}
@@ -33,7 +33,7 @@ loop-line-preserved c = (
   λ g are is.
       let here = line_at _ _ are c.loop-line.line-index _ is
       (rw c.line-item.is (get_at c.args.lines.now c.loop-line.line-index _ c.loop-line-test.true)) in
-      declare_more (ast g) are c.loop-line.line-index here.there _ _ (declared_by c.in_ok-line_in.field-0)
+      declare_more (ast g).Shape are c.loop-line.line-index here.there _ _ (declared_by c.in_ok-line_in.field-0)
       here.at (c.loop-line.invariant.0 g are is) (c.in_ok-line_in.ensures.says g here.there here.is)
       (ap (λ l. map declared_by l) c.in_ok-push.ensures.items
       ∙ map-append declared_by c.loop-line.list.items (c.in_ok-line_in.field-0 ∷ [])),

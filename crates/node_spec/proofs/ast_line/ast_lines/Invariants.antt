@@ -1,7 +1,7 @@
 -- The lines so far have declared.
 use Rattle.std.proofs.Common.{List, take, map, length, ◌≡◌}
 use Rattle.cfg_model.specs.declared.named.NamedGrammar.{NamedGrammar}
-use Rattle.spec_text.specs.Declares.{DeclareAll}
+use Rattle.section_frame.specs.Declares.{DeclareAll}
 use Rattle.spec_text.specs.Lines.{Line}
 use Rattle.spec_text.specs.Spans.{AreLinesOf}
 use Rattle.node_spec.specs.AstFaults.{ast}
@@ -11,5 +11,5 @@ use Rattle.node_spec.proofs.ast_line.ast_lines.Given as goal
 abbrev pub invariant-loop-line : goal.invariant-loop-line
 invariant-loop-line l =
     ((g : NamedGrammar) (are : List Line) → AreLinesOf l.spec l.lines are
-    → DeclareAll (ast g) (take l.line-index are) (map declared_by l.list.items))
+    → DeclareAll (ast g).Shape (take l.line-index are) (map declared_by l.list.items))
     × (length l.list.items ≡ l.line-index)

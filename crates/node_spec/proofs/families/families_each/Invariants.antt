@@ -1,6 +1,6 @@
 -- The families of the nonterminals so far.
 use Rattle.std.proofs.Common.{List, ◌≡◌, map, take}
-use Rattle.spec_text.specs.Declares.{Declared}
+use Rattle.section_frame.specs.Declares.{Declared}
 use Rattle.node_spec.specs.AstShapes.{AstSaying}
 use Rattle.node_spec.specs.within.AstUnknown.{AreNodes, family_after}
 use Rattle.node_spec.proofs.families.families_each.Given as goal

@@ -1,6 +1,6 @@
 -- Each turn looks at one line.
 use Rattle.std.proofs.Common.{refl}
-use Rattle.spec_text.proofs.Frame.{none_in_all}
+use Rattle.section_frame.proofs.Frame.{none_in_all}
 use Rattle.node_spec.proofs.AstTwiceLists.{line_at, at_end}
 use Rattle.node_spec.proofs.AstTwicePasses.{found_item, step_item}
 use Rattle.node_spec.proofs.item_twice.first_item_twice.Goals as goal

@@ -1,6 +1,6 @@
 -- Each turn looks at one line.
 use Rattle.std.proofs.Common.{◌+◌, ap}
-use Rattle.spec_text.proofs.Frame.{none_in_all}
+use Rattle.section_frame.proofs.Frame.{none_in_all}
 use Rattle.node_spec.proofs.AstLimits.{line_at, line_end, no_limit_yet, step_limit, found_limit}
 use Rattle.node_spec.proofs.limits.first_past_limit.Goals as goal
 

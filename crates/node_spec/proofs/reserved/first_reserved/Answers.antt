@@ -1,5 +1,5 @@
 -- Each turn looks at one line.
-use Rattle.spec_text.proofs.Frame.{first_here, none_more, none_in_all}
+use Rattle.section_frame.proofs.Frame.{first_here, none_more, none_in_all}
 use Rattle.node_spec.specs.within.AstTwice.{IsReserved}
 use Rattle.node_spec.proofs.AstTwiceLists.{line_at, at_end}
 use Rattle.node_spec.proofs.reserved.first_reserved.Goals as goal

@@ -1,6 +1,6 @@
 -- None of the lines so far names by a reserved word.
 use Rattle.std.proofs.Common.{map}
-use Rattle.spec_text.proofs.Frame.{NoneBefore}
+use Rattle.section_frame.proofs.Frame.{NoneBefore}
 use Rattle.node_spec.specs.within.AstSeen.{declared_by}
 use Rattle.node_spec.specs.within.AstTwice.{IsReserved}
 use Rattle.node_spec.proofs.reserved.first_reserved.Given as goal

@@ -1,6 +1,6 @@
 -- Each turn looks at one line.
 use Rattle.std.proofs.Common.{map, refl}
-use Rattle.spec_text.proofs.Frame.{first_here, none_at_first, none_more, none_in_all}
+use Rattle.section_frame.proofs.Frame.{first_here, none_at_first, none_more, none_in_all}
 use Rattle.node_spec.specs.within.AstSeen.{declared_by}
 use Rattle.node_spec.specs.within.AstUnknown.{BuildFault}
 use Rattle.node_spec.proofs.AstGathered.{line_at, at_end}

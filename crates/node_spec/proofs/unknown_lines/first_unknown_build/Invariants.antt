@@ -1,6 +1,6 @@
 -- The BUILD lines so far name what is there.
 use Rattle.std.proofs.Common.{map}
-use Rattle.spec_text.proofs.Frame.{NoneBefore}
+use Rattle.section_frame.proofs.Frame.{NoneBefore}
 use Rattle.node_spec.specs.within.AstSeen.{declared_by}
 use Rattle.node_spec.specs.within.AstUnknown.{BuildFault}
 use Rattle.node_spec.proofs.unknown_lines.first_unknown_build.Given as goal

@@ -1,7 +1,7 @@
 -- Each turn looks at one line.
 use Rattle.std.proofs.Common.{◌∙◌, ap, arith, map, refl}
 use Rattle.ck_base.specs.Numbered.{met}
-use Rattle.spec_text.proofs.Frame.{none_in_all}
+use Rattle.section_frame.proofs.Frame.{none_in_all}
 use Rattle.node_spec.specs.within.AstSeen.{declared_by}
 use Rattle.node_spec.specs.within.AstUnknown.{BaseFault}
 use Rattle.node_spec.proofs.AstGathered.{line_at, at_end}

@@ -1,6 +1,6 @@
 -- Each item so far has a type.
 use Rattle.std.proofs.Common.{map}
-use Rattle.spec_text.proofs.Frame.{NoneBefore}
+use Rattle.section_frame.proofs.Frame.{NoneBefore}
 use Rattle.node_spec.specs.within.AstSeen.{declared_by}
 use Rattle.node_spec.specs.within.AstUnknown.{ItemFault}
 use Rattle.node_spec.proofs.unknown_lines.first_without_item_type.Given as goal

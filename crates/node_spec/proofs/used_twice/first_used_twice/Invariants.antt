@@ -1,6 +1,6 @@
 -- None of the lines so far uses a value twice.
 use Rattle.std.proofs.Common.{map}
-use Rattle.spec_text.proofs.Frame.{NoneBefore}
+use Rattle.section_frame.proofs.Frame.{NoneBefore}
 use Rattle.node_spec.specs.within.AstSeen.{declared_by}
 use Rattle.node_spec.specs.within.AstTwice.{UsesTwice}
 use Rattle.node_spec.proofs.used_twice.first_used_twice.Given as goal

@@ -1,6 +1,6 @@
 -- Each turn looks at one line.
 use Rattle.std.proofs.Common.{◌+◌, ap}
-use Rattle.spec_text.proofs.Frame.{none_in_all}
+use Rattle.section_frame.proofs.Frame.{none_in_all}
 use Rattle.node_spec.proofs.AstLimits.{line_at, line_end}
 use Rattle.node_spec.proofs.AstSides.{no_side_yet, step_side, found_side}
 use Rattle.node_spec.proofs.wrong_sides.first_of_wrong_side.Goals as goal

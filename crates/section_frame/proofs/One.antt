@@ -1,8 +1,8 @@
 -- A line has one reading at most.
 use Rattle.std.proofs.Common.{◌≡◌, List, [], ◌∷◌, refl, sym, ap, ◌∙◌, Some}
 use Rattle.spec_text.specs.Lexemes.{Lexeme, word}
-use Rattle.spec_text.specs.Parts.{Part, Name, Opt, absent, present, ListBy, last, next, Some1, last_one, one_more, Behind, Before, Then, Follow}
-use Rattle.spec_text.proofs.Readings.{pair_is}
+use Rattle.section_frame.specs.Parts.{Part, Name, Opt, absent, present, ListBy, last, next, Some1, last_one, one_more, Behind, Before, Then, Follow}
+use Rattle.section_frame.proofs.Readings.{pair_is}
 
 -- what is read, and what follows it, are one
 abbrev pub Same : {V : Type 0} → V → V → List Lexeme → List Lexeme → Type 0

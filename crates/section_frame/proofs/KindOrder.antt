@@ -2,7 +2,7 @@
 use Rattle.std.proofs.Common.{ℕ, ◌<◌, arith}
 use Rattle.ck_base.specs.declared.fault.Kind.{Kind}
 use Rattle.ck_base.specs.declared.fault.Kind.TheVariants.{Section, Syntax, Limit, Twice, Unknown, Typing}
-use Rattle.spec_text.specs.FirstFault.{rank, Judged, NoneEarlier, Accepts}
+use Rattle.section_frame.specs.FirstFault.{rank, Judged, NoneEarlier, Accepts}
 
 module _ {D : Type 0} (s : Judged D) (declared : D) where
   -- no line has a fault of the kind

@@ -1,7 +1,7 @@
 -- Each turn takes a comma and a name.
 use Rattle.std.proofs.Common.{[]}
-use Rattle.spec_text.proofs.Names.{first_name, more_names, no_names}
-use Rattle.spec_text.proofs.part.names_of.Goals as goal
+use Rattle.section_frame.proofs.Names.{first_name, more_names, no_names}
+use Rattle.section_frame.proofs.part.names_of.Goals as goal
 
 pub loop-behind-init : goal.loop-behind-init
 loop-behind-init c = first_name _ [] [] _ _ _ _ c.new-names.ensures.items c.in_ok-push.ensures.items c.in-Some.ensures

@@ -2,7 +2,9 @@
 use Rattle.std.proofs.Common.{◌≡◌, ℕ, zero, suc, ◌+◌, ◌<◌, ◌≤◌, ◌⊎◌, inl, inr, refl, sym, ap, ◌∙◌, arith}
 use Rattle.ck_base.specs.declared.fault.Kind.{Kind}
 use Rattle.ck_base.specs.declared.fault.Kind.TheVariants.{Section, Syntax, Limit, Twice, Unknown, Typing}
-use Rattle.spec_text.specs.FirstFault.{Least, rank, Judged, Shapeless, NoneEarlier, FirstFault, of_shape, of_kind, Accepts, ExactlyOne}
+use Rattle.spec_text.specs.Least.{Least}
+use Rattle.section_frame.specs.FirstFault.{rank, Judged, Shapeless, NoneEarlier, FirstFault, of_shape, of_kind, Accepts, ExactlyOne}
+use Rattle.spec_text.proofs.Least.{one_least, no_least}
 use Rattle.spec_text.proofs.Lists.{order}
 
 -- what a section owes for the law: a line has one kind of no shape; lines declare one thing, only where each
@@ -12,22 +14,6 @@ pub record IsDetermined {D : Type 0} (s : Judged D) : Type 0 where
   pub one : (declared others : D) → s.Declares declared → s.Declares others → declared ≡ others
   pub apart : (declared : D) (line : ℕ) (kind : Kind) → s.Declares declared → s.NoShape line kind → ⊥
   pub whole : ((line : ℕ) → Shapeless s line → ⊥) → ((declared : D) → s.Declares declared → ⊥) → ⊥
-
-one_least : (P : ℕ → Type 0) (n m : ℕ) → Least P n → Least P m → n ≡ m
-one_least P n m f g = omega (arith, f.least m g.is, g.least n f.is)
-
--- where no number is the least one with P, none has it
-pub no_least : (P : ℕ → Type 0) → ((n : ℕ) → Least P n → ⊥) → (bound n : ℕ) → n < bound → P n → ⊥
-no_least P none zero n less is = omega (arith, less)
-no_least P none (suc bound) n less is = by (no_least P none bound)
-  where
-    by : ((m : ℕ) → m < bound → P m → ⊥) → ⊥
-    by lower = none n (record { is = is; least = λ m has. at_least m has (order m n) })
-      where
-        at_least : (m : ℕ) → P m → (m < n) ⊎ ((n < m) ⊎ (m ≡ n)) → n ≤ m
-        at_least m has (inl below) = absurd (lower m (omega (arith, below, less)) has)
-        at_least m has (inr (inl above)) = omega (arith, above)
-        at_least m has (inr (inr same)) = omega (arith, same)
 
 -- kinds of one rank above 0 are one kind
 abbrev kind_at : ℕ → Kind

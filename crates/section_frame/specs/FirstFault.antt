@@ -1,13 +1,9 @@
 -- The first fault of a section: a line without a shape, else the kinds one after the other. Lines are named
 -- by their numbers.
-use Rattle.std.specs.Prelude.{◌≡◌, ℕ, ◌<◌, ◌≤◌}
+use Rattle.std.specs.Prelude.{◌≡◌, ℕ, ◌<◌}
 use Rattle.ck_base.specs.declared.fault.Kind.{Kind}
 use Rattle.ck_base.specs.declared.fault.Kind.TheVariants.{Section, Syntax, Limit, Twice, Unknown, Typing}
-
--- n is the least number with P
-pub record Least (P : ℕ → Type 0) (n : ℕ) : Type 0 where
-  pub is : P n
-  pub least : (m : ℕ) → P m → n ≤ m
+use Rattle.spec_text.specs.Least.{Least}
 
 -- in which order the kinds are looked for; a line without a shape comes before all of them
 abbrev pub rank : Kind → ℕ

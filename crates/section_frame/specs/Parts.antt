@@ -35,9 +35,13 @@ pub data ListBy {V : Type 0} (sep : Lexeme) (P : Part V)
   next : (tokens after rest : List Lexeme) (v : V) (vs : List V) → P tokens v (sep ∷ after)
       → ListBy sep P after vs rest → ListBy sep P tokens (v ∷ vs) rest
 
+-- the sign between the parts of a list
+abbrev pub comma : Lexeme
+comma = sign (codes ",")
+
 -- list(P): one or more, with `,` between
 abbrev pub ListOf : {V : Type 0} → Part V → Part (List V)
-ListOf P = ListBy (sign (codes ",")) P
+ListOf P = ListBy comma P
 
 -- one or more, one after the other
 pub data Some1 {V : Type 0} (P : Part V) : List Lexeme → List V → List Lexeme → Type 0 where

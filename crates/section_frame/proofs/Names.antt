@@ -4,8 +4,8 @@ use Rattle.std.specs.Borrow.{Bor}
 use Rattle.std.proofs.lemmas.List.{map-append}
 use Rattle.spec_text.specs.Lexemes.{Lexeme}
 use Rattle.spec_text.specs.Seen.{bytes_of}
-use Rattle.spec_text.specs.Parts.{Name, ListOf, Anything, NotFirst, NoReading}
-use Rattle.spec_text.proofs.Readings.{name_reading, comma, ListSoFar, list_first, list_more, list_none}
+use Rattle.section_frame.specs.Parts.{Name, ListOf, Anything, NotFirst, NoReading, comma}
+use Rattle.section_frame.proofs.Readings.{name_reading, ListSoFar, list_first, list_more, list_none}
 
 abbrev pub NamesSoFar : List Lexeme → List Lexeme → List (List ℕ) → Type 0
 NamesSoFar = ListSoFar comma Name Anything (NotFirst comma) (λ rest. tt) (λ rest follows. tt) (λ rest other. other rest refl)

@@ -1,11 +1,11 @@
 // Parts of a line: words, signs, names, numbers, texts, and lists of names.
-ghost use Rattle.std.specs.Prelude.{◌≡◌, ◌↔◌, ℕ, List, ◌∷◌, map, IsTrue, IfOk, MatchOption, codes};
+ghost use Rattle.std.specs.Prelude.{◌≡◌, ◌↔◌, ℕ, List, ◌∷◌, map, IsTrue, IfOk, MatchOption};
 ghost use Rattle.spec_text.specs.Lexemes.{Lexeme, word, sign};
-ghost use Rattle.spec_text.specs.Parts.{Fixed, ListOf, Name, NoReading, NotFirst, Number, Reading, Text};
+ghost use Rattle.section_frame.specs.Parts.{Fixed, ListOf, Name, NoReading, NotFirst, Number, Reading, Text, comma};
 ghost use Rattle.spec_text.specs.Seen.{bytes_of, seen};
 
-use crate::view::Token;
 use ck_base::NoMemory;
+use spec_text::Token;
 use std::alloc::Global;
 
 /// Whether the token is this word.
@@ -91,7 +91,7 @@ pub fn names_of<'t, 's>(
     alloc: Global,
     tokens: &'t [Token<'s>],
 ) -> Result<Option<(Vec<&'s [u8]>, &'t [Token<'s>])>, NoMemory>
-    ensures { let comma = sign (codes ",") in IfOk result (λ found. MatchOption found
+    ensures { IfOk result (λ found. MatchOption found
         (NoReading (ListOf Name) (NotFirst comma) (map seen tokens.now))
         (λ list. Reading (ListOf Name) (NotFirst comma) (map seen tokens.now)
         (map bytes_of list.0.items) (map seen list.1.now))) }

@@ -1,7 +1,7 @@
 -- How the parts of a line are read, from those that they are made of.
-use Rattle.std.proofs.Common.{◌≡◌, ℕ, ◌⊎◌, inl, inr, List, [], ◌∷◌, ◌++◌, refl, sym, ap, ◌∙◌, Option, Some, None, codes, append_assoc}
-use Rattle.spec_text.specs.Lexemes.{Lexeme, word, sign}
-use Rattle.spec_text.specs.Parts.{Part, Fixed, Name, Opt, absent, present, ListBy, last, next, Some1, last_one, one_more, Behind, Before, Then, Follow, Reading, NoReading}
+use Rattle.std.proofs.Common.{◌≡◌, ℕ, ◌⊎◌, inl, inr, List, [], ◌∷◌, ◌++◌, refl, sym, ap, ◌∙◌, Option, Some, None, append_assoc}
+use Rattle.spec_text.specs.Lexemes.{Lexeme, word}
+use Rattle.section_frame.specs.Parts.{Part, Fixed, Name, Opt, absent, present, ListBy, last, next, Some1, last_one, one_more, Behind, Before, Then, Follow, Reading, NoReading}
 
 -- a name
 pub name_reading : (F : Follow) (tokens rest : List Lexeme) (name : List ℕ) → Name tokens name rest → Reading Name F tokens name rest
@@ -74,9 +74,6 @@ module _ {V W : Type 0} (P : Part V) (Q : Part W) (E F : Follow) (starts : (toke
   none_second tokens after v first none = λ pair more follows is.
       let same = first.only pair.0 is.after (starts is.after pair.1 more follows is.second) is.first in
       none pair.1 more follows (rw same.1 at is.second)
-
-abbrev pub comma : Lexeme
-comma = sign (codes ",")
 
 module _ {V : Type 0} (sep : Lexeme) (P : Part V) (E F : Follow) (at_comma : (rest : List Lexeme) → E (sep ∷ rest)) (at_end : (rest : List Lexeme) → F rest → E rest)
     (no_comma : (rest : List Lexeme) → F (sep ∷ rest) → ⊥) where

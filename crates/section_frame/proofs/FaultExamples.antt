@@ -3,12 +3,12 @@ use Rattle.std.proofs.Common.{◌≡◌, ℕ, zero, suc, ◌≤◌, List, [], �
 use Rattle.std.specs.List.{slice_get}
 use Rattle.ck_base.specs.declared.fault.Kind.{Kind}
 use Rattle.ck_base.specs.declared.fault.Kind.TheVariants.{Limit, Twice}
-use Rattle.spec_text.specs.Declares.{Declared, Notation, Says, DeclareAll, no_lines, one_line, HasNoShape, judged}
-use Rattle.spec_text.specs.FirstFault.{Judged, FirstFault, of_shape, of_kind}
+use Rattle.section_frame.specs.Declares.{Declared, Notation, Says, DeclareAll, no_lines, one_line, HasNoShape, judged}
+use Rattle.section_frame.specs.FirstFault.{Judged, FirstFault, of_shape, of_kind}
 use Rattle.spec_text.specs.Lexemes.{Lexeme, word, sign}
 use Rattle.spec_text.specs.Lines.{Line}
-use Rattle.spec_text.specs.Parts.{Part, Name, Opt, absent, ListBy, ListOf, last, next}
-use Rattle.spec_text.proofs.KindOrder.{before_twice}
+use Rattle.section_frame.specs.Parts.{Part, Name, Opt, absent, ListBy, ListOf, last, next}
+use Rattle.section_frame.proofs.KindOrder.{before_twice}
 
 -- a list isn't empty
 pub no_empty_list : {V : Type 0} (sep : Lexeme) (P : Part V) (tokens rest : List Lexeme) → ListBy sep P tokens [] rest → ⊥
@@ -31,10 +31,10 @@ shorter_parts = (
 )
 
 -- each line declares something
-pub no_line_is_left_out : {S : Type 0} (n : Notation S) (line : Line) (lines : List Line) → DeclareAll n (line ∷ lines) [] → ⊥
+pub no_line_is_left_out : {S : Type 0} (n : Notation S) (line : Line) (lines : List Line) → DeclareAll n.Shape (line ∷ lines) [] → ⊥
 no_line_is_left_out {S} n line lines all = by (line ∷ lines) [] all refl refl
   where
-    by : (all : List Line) (ds : List (Declared S)) → DeclareAll n all ds → ds ≡ [] → all ≡ line ∷ lines → ⊥
+    by : (all : List Line) (ds : List (Declared S)) → DeclareAll n.Shape all ds → ds ≡ [] → all ≡ line ∷ lines → ⊥
     by _ _ no_lines none are = cc
     by _ _ (one_line _ _ d ds says more) none are = cc
 
@@ -61,17 +61,17 @@ kind_before_line = (
     not_limit _ _ (of_kind d line kind declares some earlier least) is = earlier Twice 3 (omega arith) (rw is (omega arith)) a_double
 
 -- a bad line is the first fault, whatever faults those before it have
-pub later_shape_first : {S : Type 0} (n : Notation S) (first second : Line) (d : Declared S) (kind : Kind) → Says n first d
+pub later_shape_first : {S : Type 0} (n : Notation S) (first second : Line) (d : Declared S) (kind : Kind) → Says n.Shape first d
     → second.bad ≡ Some kind → FirstFault (judged n (first ∷ second ∷ [])) second.number kind
 later_shape_first {S} n first second d kind says bad = of_shape second.number kind (record { is = (kind, here); least = λ m has. by m has.0 has.1 }) here
   where
-    here : HasNoShape n (first ∷ second ∷ []) second.number kind
+    here : HasNoShape n.Shape (first ∷ second ∷ []) second.number kind
     here = record { place = 1; line = second; is = refl; number_is = refl; none = λ e its. let good = its.good in cc; is_kind = rw bad refl }
 
-    by : (m : ℕ) (k : Kind) → HasNoShape n (first ∷ second ∷ []) m k → second.number ≤ m
+    by : (m : ℕ) (k : Kind) → HasNoShape n.Shape (first ∷ second ∷ []) m k → second.number ≤ m
     by m k has = on has.place has.line has.is has.number_is has.none
       where
-        on : (i : ℕ) (line : Line) → slice_get (first ∷ second ∷ []) i ≡ Some line → m ≡ line.number → ((e : Declared S) → Says n line e → ⊥) → second.number ≤ m
+        on : (i : ℕ) (line : Line) → slice_get (first ∷ second ∷ []) i ≡ Some line → m ≡ line.number → ((e : Declared S) → Says n.Shape line e → ⊥) → second.number ≤ m
         on zero line at is none = let same : first ≡ line = cc in absurd (none d (rw same at says))
         on (suc zero) line at is none = let same : second ≡ line = cc in let e = ap (λ l. l.number) same in omega (arith, e, is)
         on (suc (suc i)) line at is none = cc

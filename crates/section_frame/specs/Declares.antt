@@ -7,7 +7,8 @@ use Rattle.ck_base.specs.declared.fault.SpecFault.{SpecFault}
 use Rattle.ck_base.specs.declared.fault.SpecFault.TheVariants.{Bad, NoMemory}
 use Rattle.spec_text.specs.Lexemes.{Lexeme}
 use Rattle.spec_text.specs.Lines.{Line, said_by}
-use Rattle.spec_text.specs.FirstFault.{Judged, FirstFault}
+use Rattle.spec_text.specs.Least.{Least}
+use Rattle.section_frame.specs.FirstFault.{Judged, FirstFault}
 
 -- a line's number and what it declares
 pub record Declared (S : Type 0) : Type 0 where
@@ -34,11 +35,12 @@ pub record HasAt {S : Type 0} (ds : List (Declared S)) (F : ℕ → S → Type 0
   pub number : line ≡ declared.number
   pub fault : F place declared.said
 
-module _ {S : Type 0} (n : Notation S) where
+-- of lines by their shapes alone
+module _ {S : Type 0} (Shape : List Lexeme → S → Type 0) where
   -- the line has a shape and declares this
   pub record Says (line : Line) (d : Declared S) : Type 0 where
     pub good : line.bad ≡ None
-    pub shape : n.Shape (said_by line) d.said
+    pub shape : Shape (said_by line) d.said
     pub number : d.number ≡ line.number
 
   -- each line declares one thing
@@ -56,25 +58,9 @@ module _ {S : Type 0} (n : Notation S) where
     pub none : (d : Declared S) → Says line d → ⊥
     pub is_kind : kind ≡ kind_of line.bad
 
-  abbrev pub HasFault : List (Declared S) → Kind → ℕ → Type 0
-  HasFault ds kind = HasAt ds (n.Fault ds kind)
-
-  -- the lines, judged by the notation
-  abbrev pub judged : List Line → Judged (List (Declared S))
-  judged lines = record { NoShape = HasNoShape lines; Declares = DeclareAll lines; Has = HasFault }
-
-  -- the same, where the section may have a fault at the line of its head too
-  abbrev pub judged_at : ℕ → (List (Declared S) → Kind → Type 0) → List Line → Judged (List (Declared S))
-  judged_at head AtHead lines = record {
-    NoShape = HasNoShape lines;
-    Declares = DeclareAll lines;
-    Has = λ ds kind line. HasFault ds kind line ⊎ ((line ≡ head) × AtHead ds kind);
-  }
-
-  -- the fault is the first one, or want of memory
-  abbrev pub IsFirstFault : List Line → SpecFault → Type 0
-  IsFirstFault lines (Bad line kind) = FirstFault (judged lines) line kind
-  IsFirstFault lines NoMemory = Unit {0}
+  -- the line of this number has no shape, whatever its kind
+  abbrev pub LacksShape : List Line → ℕ → Type 0
+  LacksShape lines number = (kind : Kind) × HasNoShape lines number kind
 
   -- the line's own fault: it has no shape
   abbrev pub IsFaultOfLine : Line → SpecFault → Type 0
@@ -82,11 +68,31 @@ module _ {S : Type 0} (n : Notation S) where
       (number ≡ line.number) × (kind ≡ kind_of line.bad) × ((d : Declared S) → Says line d → ⊥)
   IsFaultOfLine line NoMemory = Unit {0}
 
--- the numbers of lines grow
-abbrev pub LinesGrow : List Line → Type 0
-LinesGrow lines =
-    (i j : ℕ) (a b : Line) → slice_get lines i ≡ Some a → slice_get lines j ≡ Some b → i < j
-    → a.number < b.number
+  -- the fault is that of the first line without a shape, or want of memory
+  abbrev pub IsShapeFault : List Line → SpecFault → Type 0
+  IsShapeFault lines (Bad number kind) = Least (LacksShape lines) number × HasNoShape lines number kind
+  IsShapeFault lines NoMemory = Unit {0}
+
+module _ {S : Type 0} (n : Notation S) where
+  abbrev pub HasFault : List (Declared S) → Kind → ℕ → Type 0
+  HasFault ds kind = HasAt ds (n.Fault ds kind)
+
+  -- the lines, judged by the notation
+  abbrev pub judged : List Line → Judged (List (Declared S))
+  judged lines = record { NoShape = HasNoShape n.Shape lines; Declares = DeclareAll n.Shape lines; Has = HasFault }
+
+  -- the same, where the section may have a fault at the line of its head too
+  abbrev pub judged_at : ℕ → (List (Declared S) → Kind → Type 0) → List Line → Judged (List (Declared S))
+  judged_at head AtHead lines = record {
+    NoShape = HasNoShape n.Shape lines;
+    Declares = DeclareAll n.Shape lines;
+    Has = λ ds kind line. HasFault ds kind line ⊎ ((line ≡ head) × AtHead ds kind);
+  }
+
+  -- the fault is the first one, or want of memory
+  abbrev pub IsFirstFault : List Line → SpecFault → Type 0
+  IsFirstFault lines (Bad line kind) = FirstFault (judged lines) line kind
+  IsFirstFault lines NoMemory = Unit {0}
 
 -- line numbers rise
 abbrev pub Grow : {S : Type 0} → List (Declared S) → Type 0
