@@ -4,4 +4,12 @@ pub mod Names
 pub mod OneFault
 pub mod Frame
 mod FaultExamples
+mod WordExamples
 pub mod KindOrder
+pub mod Passing
+pub mod Named
+pub mod Shaped
+pub mod Staged
+pub mod PartLists
+pub mod Using
+pub mod Counting
