@@ -14,7 +14,8 @@ pub struct Numbered<T> {
 
 /// A test of lines, one after the other, which may keep what lines before have said.
 pub trait LineTest<T> {
-    ghost use Rattle.std.specs.Prelude.{◌≡◌, ◌+◌, ◌<◌, ◌^◌, ◌↔◌, ℕ, List, false, length, slice_get, Some, IsTrue, IfOk};
+    ghost use Rattle.std.specs.Prelude.{◌≡◌, ◌+◌, ◌<◌, ◌^◌, ◌↔◌, ℕ, List, false, length, slice_get};
+    ghost use Rattle.std.specs.Prelude.{Some, IsTrue, IfOk};
     ghost use Rattle.section_frame.specs.Declares.{Declared};
 
     /// What is looked for among lines, at a place.
