@@ -1,6 +1,6 @@
 // The written expression that stands at a place among tokens.
 ghost use Rattle.std.specs.Prelude.{◌≡◌, ◌-◌, ◌≤◌, List, None, length, map, drop, IfOk, MatchOption};
-ghost use Rattle.spec_text.specs.Parts.{NoReading};
+ghost use Rattle.section_frame.specs.Parts.{NoReading};
 ghost use Rattle.spec_text.specs.Reading.{Placed};
 ghost use Rattle.spec_text.specs.Seen.{seen};
 ghost use Rattle.expr_read.specs.Notation.{IsSpoken, MayFollow};

@@ -7,7 +7,7 @@ use Rattle.ck_base.specs.declared.fault.SpecFault.TheVariants.{Bad, NoMemory}
 use Rattle.spec_text.specs.Lexemes.{Lexeme}
 use Rattle.spec_text.specs.Lines.{Line, said_by, LinesGrow}
 use Rattle.spec_text.specs.Least.{Least}
-use Rattle.section_frame.specs.FirstFault.{Shapeless, FirstFault, of_shape, ExactlyOne}
+use Rattle.section_frame.specs.FirstFault.{FirstFault, of_shape, ExactlyOne}
 use Rattle.section_frame.specs.Declares.{Declared, Notation, kind_of, HasAt, Says, DeclareAll, no_lines, one_line, HasNoShape, LacksShape, IsShapeFault, HasFault, judged, judged_at, IsFirstFault, IsFaultOfLine, Grow}
 use Rattle.spec_text.proofs.Lists.{order, take_step, take_get, get_fits}
 use Rattle.section_frame.proofs.OneFault.{IsDetermined, exactly_one}

@@ -1,5 +1,5 @@
 -- Names met line by line.
-use Rattle.std.proofs.Common.{◌≡◌, ℕ, ◌+◌, ◌≤◌, ◌↔◌, IsTrue, Bool, true, false, List, [], ◌∷◌, ◌++◌, length, take, map, refl, sym, ap, ◌∙◌, subst, Option, Some, None, IsNone, is_some, Contains, arith, length-append, append-nil}
+use Rattle.std.proofs.Common.{◌≡◌, ℕ, ◌+◌, ◌≤◌, ◌↔◌, IsTrue, Bool, false, List, [], ◌∷◌, ◌++◌, length, take, map, refl, sym, ap, ◌∙◌, subst, Option, Some, None, IsNone, is_some, Contains, arith, length-append, append-nil}
 use Rattle.std.specs.List.{slice_get}
 use Rattle.ck_base.specs.Numbered.{met}
 use Rattle.ck_base.proofs.NamesMet.{met_new, none_where_absent}

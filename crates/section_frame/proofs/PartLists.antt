@@ -1,7 +1,7 @@
 -- Parts that stand more than once, as they are read.
 use Rattle.std.proofs.Common.{◌≡◌, ◌⊎◌, inl, inr, List, [], ◌∷◌, ◌++◌, refl, sym, ap, ◌∙◌, subst, append_assoc, append-nil, Option, Some, None}
 use Rattle.spec_text.specs.Lexemes.{Lexeme}
-use Rattle.section_frame.specs.Parts.{Part, Follow, ListBy, ListOf, Opt, absent, present, Fixed, NotFirst, Reading, NoReading, comma}
+use Rattle.section_frame.specs.Parts.{Part, Follow, ListOf, Opt, absent, present, Fixed, Reading, NoReading, comma}
 use Rattle.section_frame.proofs.Readings.{ListSoFar, list_first, list_more, list_none, list_none_first, Goes}
 use Rattle.section_frame.specs.Read.{Rep, no_part, one_part, EndsList, EndsParts, GainsPart}
 

@@ -6,7 +6,7 @@ use Rattle.ck_base.specs.declared.fault.SpecFault.{SpecFault}
 use Rattle.ck_base.specs.declared.fault.SpecFault.TheVariants.{Bad, NoMemory}
 use Rattle.section_frame.specs.Declares.{Declared, Notation, HasFault, IsShapeFault, judged_at, judged}
 use Rattle.spec_text.specs.Least.{Least}
-use Rattle.section_frame.specs.FirstFault.{Judged, FirstFault, of_shape, of_kind, Accepts}
+use Rattle.section_frame.specs.FirstFault.{Judged, of_shape, of_kind, Accepts}
 use Rattle.spec_text.specs.Lines.{Line}
 use Rattle.section_frame.proofs.KindOrder.{HasNone, before_twice, before_unknown, before_typing, before_limit, accepted}
 use Rattle.spec_text.proofs.Lists.{order}

@@ -4,7 +4,7 @@ use Rattle.std.proofs.Common.{◌≡◌, ℕ, zero, suc, ◌<◌, List, [], ◌�
 use Rattle.std.specs.List.{slice_get}
 use Rattle.ck_base.specs.declared.fault.Kind.TheVariants.{Twice}
 use Rattle.ck_base.specs.declared.fault.SpecFault.TheVariants.{Bad}
-use Rattle.spec_text.specs.Lexemes.{Lexeme, word}
+use Rattle.spec_text.specs.Lexemes.{word}
 use Rattle.section_frame.specs.Declares.{Declared}
 use Rattle.section_frame.specs.Parts.{Name}
 use Rattle.section_frame.specs.Read.{Rep, no_part, one_part}

@@ -1,5 +1,5 @@
 -- One kind of fault after the other.
-use Rattle.std.specs.Prelude.{◌≡◌, ℕ, min, Bool, true, false, List, Option, None, Some, MatchOption}
+use Rattle.std.specs.Prelude.{◌≡◌, ℕ, min, Bool, true, false, Option, None, Some, MatchOption}
 use Rattle.ck_base.specs.declared.fault.Kind.{Kind}
 use Rattle.ck_base.specs.declared.fault.Kind.TheVariants.{Limit, Twice, Unknown, Typing}
 use Rattle.ck_base.specs.declared.fault.SpecFault.{SpecFault}

@@ -1,6 +1,5 @@
 -- A line with a name, and one without.
 use Rattle.std.proofs.Common.{map, arith, ap, ◌∙◌}
-use Rattle.std.proofs.lemmas.List.{length-map}
 use Rattle.spec_text.proofs.Lists.{get_fits, map_get}
 use Rattle.section_frame.specs.Passes.{as_seen}
 use Rattle.section_frame.proofs.Named.{none_more_named, means_again, one_more_named}
