@@ -15,12 +15,12 @@ use Rattle.spec_text.specs.declared.section.Section.TheVariants.{Rex, Ell}
 use Rattle.spec_text.proofs.SectionExamples.{word_line, begins_rex, begins_end}
 use Rattle.section_frame.proofs.KindOrder.{before_unknown}
 use Rattle.front_spec.specs.GrammarShapes.{SaidProduction, ProductionLine}
-use Rattle.front_spec.specs.GrammarFaults.{nonterminals_in, GrammarFault, second_label, left_is_token, left_is_end, no_symbol, too_many_rules, too_many_symbols, grammar}
+use Rattle.front_spec.specs.GrammarFaults.{nonterminals_in, left_name, one, empty, GrammarFault, second_label, left_is_token, left_is_end, no_symbol, too_many_rules, too_many_symbols, grammar}
 use Rattle.front_spec.specs.GrammarRules.{grammar_by}
 use Rattle.front_spec.specs.GrammarPromise.{judged_grammar, HasGrammar}
-use Rattle.front_spec.specs.GrammarSteps.{HasIn}
+use Rattle.section_frame.specs.Words.{IsAmong, sum_by}
+use Rattle.section_frame.proofs.Using.{none_of_two}
 use Rattle.front_spec.proofs.OneGrammar.{one_grammar_section, ell_is_grammar}
-use Rattle.front_spec.proofs.ProductionPasses.{head_unknown}
 
 -- `RULE one : s = u a t`, `RULE two : t =`, `RULE three : u = t`
 abbrev u_a_t : List (List ℕ)
@@ -52,8 +52,11 @@ end_rule = record { number = 3; said = with_end } ∷ []
 
 pub end_is_unknown : GrammarFault (codes "a" ∷ []) end_rule Unknown 0 with_end
 end_is_unknown =
-    no_symbol 0 with_end (codes "END") (0, omega arith, refl) (λ there. not_end (codes "a") refl there)
-    (λ there. not_end (codes "s") refl there)
+    no_symbol 0 with_end (record {
+      name = codes "END";
+      used = (0, omega arith, refl);
+      none = none_of_two (codes "a" ∷ []) (codes "s" ∷ []) (codes "END") (λ there. not_end (codes "a") refl there) (λ there. not_end (codes "s") refl there);
+    })
   where
     not_end : (name : List ℕ) → length name ≡ 1 → Contains (name ∷ []) (codes "END") → ⊥
     not_end name one there = by there.0 there.1 there.2
@@ -83,16 +86,28 @@ no_end name one is = let long = ap length is in omega (arith, one, long)
 nothing_in : (name : List ℕ) → Contains [] name → ⊥
 nothing_in name there = let less = there.1 in omega (arith, less)
 
+end_alone : (said : SaidProduction) → IsAmong left_name (codes "END" ∷ []) said → said.left ≡ codes "s" → ⊥
+end_alone said among is =
+    let called : among.called ≡ codes "s" = (let a = among.is in cc) in
+    by among.called among.among called
+  where
+    by : (name : List ℕ) → Contains (codes "END" ∷ []) name → name ≡ codes "s" → ⊥
+    by name there same = at there.0 there.1 there.2
+      where
+        at : (i : ℕ) → i < 1 → get_or (codes "END" ∷ []) i name ≡ name → ⊥
+        at zero less here = no_end (codes "s") refl (sym same ∙ sym here)
+        at (suc i) less here = omega (arith, less)
+
 pub label_is_twice : Least (HasFault (grammar []) label_twice Twice) 4
 label_is_twice = record {
-  is = record { place = 1; declared = _; is = refl; number = refl; fault = second_label 1 same_label (0, omega arith, refl) };
+  is = record { place = 1; declared = _; is = refl; number = refl; fault = second_label 1 same_label (record { called = codes "one"; is = refl; before = (0, omega arith, refl) }) };
   least = λ line has. by line has.place has.declared has.is has.number has.fault;
 }
   where
     first_is_none : (said : SaidProduction) → said ≡ first_rule → GrammarFault [] label_twice Twice 0 said → ⊥
-    first_is_none _ is (second_label _ said there) = nothing_in said.label there
-    first_is_none _ is (left_is_token _ said there) = nothing_in said.left there
-    first_is_none _ is (left_is_end _ said end) = no_end (codes "s") refl (sym (ap (λ s. s.left) is) ∙ end)
+    first_is_none _ is (second_label _ said again) = nothing_in again.called again.before
+    first_is_none _ is (left_is_token _ said among) = nothing_in among.called among.among
+    first_is_none _ is (left_is_end _ said among) = end_alone said among (ap (λ s. s.left) is)
 
     by : (line place : ℕ) (d : Declared SaidProduction) → slice_get label_twice place ≡ Some d → line ≡ d.number
         → GrammarFault [] label_twice Twice place d.said → 4 ≤ line
@@ -111,14 +126,16 @@ pub left_side_again : GrammarFault [] label_twice Twice 2 same_left → ⊥
 left_side_again fault = by same_left refl fault
   where
     by : (said : SaidProduction) → said ≡ same_left → GrammarFault [] label_twice Twice 2 said → ⊥
-    by _ is (second_label _ said there) = another there.0 there.1 (rw (ap (λ s. s.label) is) at there.2)
+    by _ is (second_label _ said again) =
+        let called : again.called ≡ codes "other" = (let a = again.is in let b = ap (λ s. s.label) is in cc) in
+        another again.before.0 again.before.1 (rw called at again.before.2)
       where
         another : (i : ℕ) → i < 2 → get_or (codes "one" ∷ codes "one" ∷ []) i (codes "other") ≡ codes "other" → ⊥
         another zero less same = let long = ap length same in omega (arith, long)
         another (suc zero) less same = let long = ap length same in omega (arith, long)
         another (suc (suc i)) less same = omega (arith, less)
-    by _ is (left_is_token _ said there) = nothing_in said.left there
-    by _ is (left_is_end _ said end) = no_end (codes "s") refl (sym (ap (λ s. s.left) is) ∙ end)
+    by _ is (left_is_token _ said among) = nothing_in among.called among.among
+    by _ is (left_is_end _ said among) = end_alone said among (ap (λ s. s.left) is)
 
 -- where the tokens and END are too many already, the first rule is at fault; with 510 tokens a nonterminal fits,
 -- with 511 not
@@ -137,13 +154,16 @@ pub one_too_many : (tokens : List (List ℕ)) (d : Declared SaidProduction) (ds 
     → GrammarFault tokens (d ∷ ds) Limit 0 d.said
 one_too_many tokens d ds full = too_many_symbols 0 d.said (let one = one_nonterminal d ds in omega (arith, full, one))
 
+first_alone : (d : Declared SaidProduction) (ds : List (Declared SaidProduction)) → sum_by one (take 1 (d ∷ ds)) ≡ 1
+first_alone d ds = refl
+
 pub just_fits : (tokens : List (List ℕ)) (d : Declared SaidProduction) (ds : List (Declared SaidProduction))
     → length tokens ≡ 510
     → GrammarFault tokens (d ∷ ds) Limit 0 d.said → ⊥
 just_fits tokens d ds full fault = by d.said fault
   where
     by : (said : SaidProduction) → GrammarFault tokens (d ∷ ds) Limit 0 said → ⊥
-    by _ (too_many_rules _ said more) = omega (arith, more)
+    by _ (too_many_rules _ said more) = let sum = first_alone d ds in omega (arith, more, sum)
     by _ (too_many_symbols _ said more) = let one = one_nonterminal d ds in omega (arith, more, full, one)
 
 -- a section without a rule is at fault at its head's line, and not accepted as a grammar without rules
@@ -153,9 +173,13 @@ no_rules = record { head = 7; inside = [] }
 pub no_rule_is_unknown : (tokens : List (List ℕ)) → FirstFault (judged_grammar tokens no_rules) 7 Unknown
 no_rule_is_unknown tokens =
     of_kind [] 7 Unknown no_lines (omega arith) (before_unknown (judged_grammar tokens no_rules) [] none_twice)
-    (head_unknown tokens 7 [] refl)
+    (record { is = inr (refl, empty refl); least = λ line has. at_seven line has })
   where
-    none_twice : (line : ℕ) → HasIn tokens 7 [] Twice line → ⊥
+    at_seven : (line : ℕ) → (judged_grammar tokens no_rules).Has [] Unknown line → 7 ≤ line
+    at_seven line (inl has) = let at = has.is in cc
+    at_seven line (inr has) = let is = has.0 in omega (arith, is)
+
+    none_twice : (line : ℕ) → (judged_grammar tokens no_rules).Has [] Twice line → ⊥
     none_twice line (inl has) = let at = has.is in cc
     none_twice line (inr has) = elim has.1 [ ]
 

@@ -16,11 +16,14 @@ use Rattle.cfg_model.specs.declared.named.NamedGrammar.{NamedGrammar}
 use Rattle.section_frame.specs.Declares.{Declared}
 use Rattle.spec_text.proofs.Lists.{take_step, take_all, get_at, get_fits, map_get}
 use Rattle.spec_text.proofs.Parting.{contains_at, some_at}
+use Rattle.section_frame.specs.Words.{sum_by}
+use Rattle.section_frame.proofs.Named.{names_by_some}
+use Rattle.section_frame.proofs.Using.{none_of_two}
 use Rattle.front_spec.specs.GrammarShapes.{SaidProduction}
-use Rattle.front_spec.specs.GrammarFaults.{nonterminals_in, no_symbol, too_many_rules, too_many_symbols, NoProduction, empty}
+use Rattle.front_spec.specs.GrammarFaults.{nonterminals_in, no_symbol, one, too_many_rules, too_many_symbols, NoProduction, empty, grammar}
 use Rattle.front_spec.specs.GrammarRules.{known_number, symbol_or, symbol_by, production_by, grammar_by}
 use Rattle.front_spec.specs.GrammarPromise.{DeclaresGrammar}
-use Rattle.front_spec.specs.GrammarSteps.{HasNone}
+use Rattle.section_frame.specs.Declares.{HasFault}
 
 -- one element more, seen twice
 pub one_seen : {X Y Z : Type 0} (f : Y → Z) (g : X → Y) (xs : List X) (i : ℕ) (x : X) (old new : List Z)
@@ -69,9 +72,19 @@ left_number : (ds : List (Declared SaidProduction)) (i : ℕ) (d : Declared Said
     → (n : ℕ) × (number_of (nonterminals_in ds) d.said.left ≡ Some n)
 left_number ds i d at = met_at [] (map (λ e. e.said.left) ds) i d.said.left (map_get (λ e. e.said.left) ds i d at)
 
+-- so many rules
+all_ones : (ds : List (Declared SaidProduction)) (n : ℕ) → n ≤ length ds → sum_by one (take n ds) ≡ n
+all_ones ds zero fits = none ds
+  where
+    none : (ds : List (Declared SaidProduction)) → sum_by one (take 0 ds) ≡ 0
+    none [] = refl
+    none (d ∷ ds) = refl
+all_ones [] (suc n) fits = absurd (omega (arith, fits))
+all_ones (d ∷ ds) (suc n) fits = let more = all_ones ds n (omega (arith, fits)) in omega (arith, more)
+
 -- the grammar's numbers and counts
-module _ (tokens : List (List ℕ)) (ds : List (Declared SaidProduction)) (unknown : HasNone tokens ds Unknown)
-    (limit : HasNone tokens ds Limit) where
+module _ (tokens : List (List ℕ)) (ds : List (Declared SaidProduction)) (unknown : (line : ℕ) → HasFault (grammar tokens) ds Unknown line → ⊥)
+    (limit : (line : ℕ) → HasFault (grammar tokens) ds Limit line → ⊥) where
   at_most : (n most : ℕ) → (most < n → ⊥) → n ≤ most
   at_most n most none = omega (arith, none)
 
@@ -101,8 +114,11 @@ module _ (tokens : List (List ℕ)) (ds : List (Declared SaidProduction)) (unkno
         declared = get_or ds k d;
         is = get_at ds k d less;
         number = refl;
-        fault = no_symbol k (get_or ds k d).said (get_or (get_or ds k d).said.right j name)
-            (contains_at _ j _ (get_at (get_or ds k d).said.right j name within)) no_token no_nonterminal;
+        fault = no_symbol k (get_or ds k d).said (record {
+          name = get_or (get_or ds k d).said.right j name;
+          used = contains_at _ j _ (get_at (get_or ds k d).said.right j name within);
+          none = none_of_two tokens (nonterminals_in ds) _ no_token no_nonterminal;
+        });
       })))
 
   rules_within : length ds ≤ 1024
@@ -113,7 +129,7 @@ module _ (tokens : List (List ℕ)) (ds : List (Declared SaidProduction)) (unkno
         declared = last.0;
         is = last.1;
         number = refl;
-        fault = too_many_rules 1024 last.0.said (omega arith);
+        fault = too_many_rules 1024 last.0.said (let sum = all_ones ds 1025 (omega (arith, more)) in omega (arith, sum));
       }))
 
   symbols_within : 0 < length ds → length tokens + 1 + length (nonterminals_in ds) ≤ 512
@@ -128,7 +144,7 @@ module _ (tokens : List (List ℕ)) (ds : List (Declared SaidProduction)) (unkno
             declared = last.0;
             is = last.1;
             number = refl;
-            fault = too_many_symbols n last.0.said (rw (take_all ds (n + 1) (omega (arith, is))) more);
+            fault = too_many_symbols n last.0.said (rw (take_all ds (n + 1) (omega (arith, is)), names_by_some (λ said. said.left) ds) more);
           }))
 
   in_range : 0 < length ds → IsGrammar (grammar_by tokens ds)

@@ -4,7 +4,7 @@ use Rattle.ck_base.specs.declared.fault.SpecFault.{SpecFault}
 use Rattle.ck_base.specs.declared.fault.SpecFault.TheVariants.{Bad, NoMemory}
 use Rattle.cfg_model.specs.Cfg.{Rule}
 use Rattle.cfg_model.specs.declared.named.NamedGrammar.{NamedGrammar}
-use Rattle.section_frame.specs.Declares.{Declared, DeclareAll, Grow}
+use Rattle.section_frame.specs.Declares.{Declared, DeclareAll, Grow, IsShapeFault}
 use Rattle.section_frame.specs.FirstFault.{Accepts}
 use Rattle.spec_text.specs.Lines.{Line}
 use Rattle.spec_text.specs.Sections.{SectionLines}
@@ -12,23 +12,31 @@ use Rattle.spec_text.specs.Spans.{AreLinesOf}
 use Rattle.section_frame.proofs.Frame.{declared_grow}
 use Rattle.spec_text.proofs.Numbers.{section_grows, section_few}
 use Rattle.spec_text.proofs.Views.{as_many}
-use Rattle.front_spec.specs.GrammarShapes.{SaidProduction}
-use Rattle.front_spec.specs.GrammarFaults.{labels_in, nonterminals_in, grammar}
+use Rattle.section_frame.specs.Passes.{judged_by, numbered}
+use Rattle.section_frame.specs.Stages.{IsFirstIn}
+use Rattle.section_frame.specs.declared.pass.Numbered.{Numbered}
+use Rattle.section_frame.proofs.Passing.{grow_numbered}
+use Rattle.section_frame.proofs.Staged.{shapeless_at}
+use Rattle.front_spec.specs.GrammarShapes.{SaidProduction, ProductionLine}
+use Rattle.front_spec.specs.GrammarFaults.{labels_in, nonterminals_in, grammar, NoProduction}
 use Rattle.front_spec.specs.GrammarRules.{production_by, named_by}
 use Rattle.front_spec.specs.GrammarPromise.{judged_grammar, DeclaresGrammar, IsGrammarFault}
-use Rattle.front_spec.specs.GrammarSteps.{produced_by, IsGrammarText, IsFirstOf}
+use Rattle.front_spec.specs.GrammarSteps.{produced, IsGrammarText}
 use Rattle.front_spec.specs.declared.grammar_text.GrammarText.{GrammarText}
 use Rattle.front_spec.specs.declared.production.Production.{Production}
 
 module _ (file : List ℕ) (tokens : List (List ℕ)) (text : GrammarText) (is : IsGrammarText file text) where
-  pub grammar_fault : (fault : SpecFault) → IsFirstOf tokens is.these fault → IsGrammarFault file tokens fault
+  pub grammar_fault : (fault : SpecFault) → IsFirstIn (judged_grammar tokens is.these) fault → IsGrammarFault file tokens fault
   grammar_fault (Bad line kind) first = record { ell = text.ell; lines = is.these; section = is.has; fault = first }
   grammar_fault NoMemory first = tt
 
+  pub shape_fault : (fault : SpecFault) → IsShapeFault ProductionLine is.these.inside fault → IsGrammarFault file tokens fault
+  shape_fault fault first = grammar_fault fault (shapeless_at (grammar tokens) is.these.head NoProduction is.these.inside fault first)
+
   -- the declarations are as many as the lines of the section, and their numbers grow
-  module _ (list rows : List Production) (rows_are : rows ≡ list) (size : length file ≤ 1048576)
-      (declared : (tokens : List (List ℕ)) (are : List Line) → AreLinesOf file text.section.lines.now are
-      → DeclareAll (grammar tokens).Shape are (map produced_by list))
+  module _ (list rows : List (Numbered Production)) (rows_are : rows ≡ list) (size : length file ≤ 1048576)
+      (declared : (are : List Line) → AreLinesOf file text.section.lines.now are
+      → DeclareAll ProductionLine are (map (judged_by produced) list))
       (few : length list ≡ length text.section.lines.now) where
     pub list_few : length rows ≤ 1048576
     list_few =
@@ -36,28 +44,29 @@ module _ (file : List ℕ) (tokens : List (List ℕ)) (text : GrammarText) (is :
         let less = section_few file is.has.section is.these is.has.has in
         let same = ap length rows_are in omega (arith, same, few, many, less, size)
 
-    pub all_declared : DeclareAll (grammar tokens).Shape is.these.inside (map produced_by rows)
-    all_declared = rw rows_are (declared tokens is.these.inside is.lines)
+    pub all_declared : DeclareAll ProductionLine is.these.inside (map (judged_by produced) rows)
+    all_declared = rw rows_are (declared is.these.inside is.lines)
 
-    pub list_grows : Grow (map produced_by rows)
+    pub list_grows : Grow (map numbered rows)
     list_grows =
-        declared_grow (grammar tokens).Shape is.these.inside (map produced_by rows) all_declared
-        (section_grows file is.has.section is.these is.has.has)
+        grow_numbered produced rows
+        (declared_grow ProductionLine is.these.inside (map (judged_by produced) rows) all_declared
+        (section_grows file is.has.section is.these is.has.has))
 
     -- without a fault the grammar is declared, and in its ranges
     module _ (accepts : (these : SectionLines) → text.section.head ≡ these.head
-        → DeclareAll (grammar tokens).Shape these.inside (map produced_by rows)
-        → Accepts (judged_grammar tokens these) (map produced_by rows)) where
-      accepted : Accepts (judged_grammar tokens is.these) (map produced_by rows)
+        → DeclareAll ProductionLine these.inside (map (judged_by produced) rows)
+        → Accepts (judged_grammar tokens these) (map (judged_by produced) rows)) where
+      accepted : Accepts (judged_grammar tokens is.these) (map (judged_by produced) rows)
       accepted = accepts is.these is.head all_declared
 
-      pub declares : (g : NamedGrammar) → g ≡ named_by tokens text.ell (map produced_by rows)
+      pub declares : (g : NamedGrammar) → g ≡ named_by tokens text.ell (map (judged_by produced) rows)
           → DeclaresGrammar file tokens g
       declares g are = record {
         ell = text.ell;
         lines = is.these;
         section = is.has;
-        declared = map produced_by rows;
+        declared = map (judged_by produced) rows;
         accepted = accepted;
         is = are;
       }

@@ -5,18 +5,22 @@ ghost use Rattle.section_frame.specs.Declares.{DeclareAll, Grow};
 ghost use Rattle.section_frame.specs.FirstFault.{Accepts};
 ghost use Rattle.spec_text.specs.Promise.{AreSectionsOf};
 ghost use Rattle.spec_text.specs.Sections.{SectionLines};
-ghost use Rattle.front_spec.specs.GrammarFaults.{grammar, labels_in, nonterminals_in};
+ghost use Rattle.section_frame.specs.Passes.{judged_by, numbered};
+ghost use Rattle.section_frame.specs.Stages.{IsFirstIn};
+ghost use Rattle.front_spec.specs.GrammarFaults.{labels_in, nonterminals_in};
+ghost use Rattle.front_spec.specs.GrammarShapes.{ProductionLine};
 ghost use Rattle.front_spec.specs.GrammarPromise.{DeclaresGrammar, HasGrammar, IsGrammarFault, judged_grammar};
-ghost use Rattle.front_spec.specs.GrammarSteps.{IsFirstOf, produced_by};
+ghost use Rattle.front_spec.specs.GrammarSteps.{produced};
 
 use crate::grammar_rules::grammar_rules;
 use crate::grammar_text::grammar_of;
-use crate::production::{Production, productions};
-use crate::production_fault::{first_limit, first_twice, first_unknown, left_sides};
+use crate::production::{Production, Productions};
+use crate::production_fault::{ByLeft, limit_in, twice_in, unknown_in};
 use bumpalo::Bump;
 use cfg_model::{Grammar, NamedGrammar};
-use ck_base::{Kind, Names, SpecFault};
+use ck_base::{Names, SpecFault};
 use rex_model::ScanRules;
+use section_frame::{Numbered, declared_lines, gathered, stages, with_head};
 use spec_text::Sections;
 use std::alloc::Global;
 
@@ -44,7 +48,7 @@ pub fn read_grammar(
     let text = grammar_of(s);
     let tokens = &rules.tokens;
     let texts = Bump::new(alloc);
-    let list = productions(alloc, &texts, spec, text.section.lines)?;
+    let list = declared_lines(alloc, &texts, spec, text.section.lines, &Productions)?;
     let list = list.as_slice();
     let names = declared_names(alloc, tokens, text.section.head, list)?;
     let rules = grammar_rules(alloc, tokens, &names.nonterminals, list)?;
@@ -73,40 +77,27 @@ fn declared_names(
     alloc: Global,
     tokens: &Names,
     head: u32,
-    list: &[Production<'_>],
+    list: &[Numbered<Production<'_>>],
 ) -> Result<GrammarNames, SpecFault>
     requires few { length list.now + 1 < 2 ^ 32 }
-    requires grow { Grow (map produced_by list.now) }
-    ensures labels { IfOk result (λ names. names.labels ≡ labels_in (map produced_by list.now)) }
+    requires grow { Grow (map numbered list.now) }
+    ensures labels { IfOk result (λ names.
+        names.labels ≡ labels_in (map (judged_by produced) list.now)) }
     ensures nonterminals { IfOk result (λ names.
-        names.nonterminals ≡ nonterminals_in (map produced_by list.now)) }
+        names.nonterminals ≡ nonterminals_in (map (judged_by produced) list.now)) }
     ensures accepted { IfOk result (λ names. (these : SectionLines) → head ≡ these.head
-        → DeclareAll (grammar tokens.now).Shape these.inside (map produced_by list.now)
-        → Accepts (judged_grammar tokens.now these) (map produced_by list.now)) }
+        → DeclareAll ProductionLine these.inside (map (judged_by produced) list.now)
+        → Accepts (judged_grammar tokens.now these) (map (judged_by produced) list.now)) }
     ensures fault { IfErr result (λ fault. (these : SectionLines) → head ≡ these.head
-        → DeclareAll (grammar tokens.now).Shape these.inside (map produced_by list.now)
-        → IsFirstOf tokens.now these fault) }
+        → DeclareAll ProductionLine these.inside (map (judged_by produced) list.now)
+        → IsFirstIn (judged_grammar tokens.now these) fault) }
 {
-    let mut labels = Names::new(alloc);
-    if let Some(line) = first_twice(&mut labels, tokens, list)? {
-        return Err(SpecFault::Bad {
-            line,
-            kind: Kind::Twice,
-        });
-    }
-    let nonterminals = left_sides(alloc, list)?;
-    if let Some(line) = first_unknown(tokens, &nonterminals, head, list) {
-        return Err(SpecFault::Bad {
-            line,
-            kind: Kind::Unknown,
-        });
-    }
-    if let Some(line) = first_limit(alloc, tokens, list)? {
-        return Err(SpecFault::Bad {
-            line,
-            kind: Kind::Limit,
-        });
-    }
+    let (labels, twice) = twice_in(alloc, tokens, list)?;
+    let nonterminals = gathered(alloc, list, &ByLeft)?;
+    let unknown = unknown_in(tokens, &nonterminals, list)?;
+    let unknown = with_head(list.is_empty(), head, unknown);
+    let limit = limit_in(alloc, tokens, list)?;
+    stages(twice, unknown, None, limit)?;
     Ok(GrammarNames {
         labels,
         nonterminals,

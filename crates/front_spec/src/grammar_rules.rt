@@ -2,11 +2,13 @@
 ghost use Rattle.std.specs.Prelude.{◌≡◌, ℕ, List, map, IfOk};
 ghost use Rattle.spec_text.specs.Seen.{bytes_of};
 ghost use Rattle.front_spec.specs.GrammarRules.{known_number, production_by, symbol_by};
-ghost use Rattle.front_spec.specs.GrammarSteps.{produced, produced_by};
+ghost use Rattle.section_frame.specs.Passes.{judged_by};
+ghost use Rattle.front_spec.specs.GrammarSteps.{produced};
 
 use crate::production::Production;
 use cfg_model::{GrammarRule, Sym};
 use ck_base::{Names, NoMemory};
+use section_frame::Numbered;
 use std::alloc::Global;
 
 /// The rules by the numbers of their symbols.
@@ -14,14 +16,15 @@ pub(crate) fn grammar_rules(
     alloc: Global,
     tokens: &Names,
     nonterminals: &Names,
-    list: &[Production<'_>],
+    list: &[Numbered<Production<'_>>],
 ) -> Result<Vec<GrammarRule>, NoMemory>
     ensures { IfOk result (λ rules. rules.items
-        ≡ map (λ d. production_by tokens.now nonterminals.now d.said) (map produced_by list.now)) }
+        ≡ map (λ d. production_by tokens.now nonterminals.now d.said)
+        (map (judged_by produced) list.now)) }
 {
     let mut rules = Vec::new(alloc);
     for item in list {
-        rules.push(rule_of(alloc, tokens, nonterminals, item)?)?;
+        rules.push(rule_of(alloc, tokens, nonterminals, &item.says)?)?;
     }
     Ok(rules)
 }

@@ -1,21 +1,21 @@
 -- One kind after the other.
-use Rattle.front_spec.proofs.ProductionPasses.{is_twice, is_unknown, is_limit, is_accepted}
+use Rattle.std.proofs.Common.{map}
+use Rattle.section_frame.specs.Passes.{judged_by}
+use Rattle.spec_text.proofs.PassedOn.{passed_on}
+use Rattle.front_spec.specs.GrammarSteps.{produced}
+use Rattle.front_spec.proofs.ProductionFaults.{is_without_rule, grammar_fault, grammar_accepted}
 use Rattle.front_spec.proofs.grammar.declared_names.Goals as goal
 
-pub returns-in-Some-clause-fault : goal.returns-in-Some-clause-fault
-returns-in-Some-clause-fault c = λ these head all.
-    is_twice _ these _ _ head all _ (rw c.in-Some.is at c.in_ok-line.ensures.fault)
-
-pub returns-in-Some-first_unknown-clause-fault : goal.returns-in-Some-first_unknown-clause-fault
-returns-in-Some-first_unknown-clause-fault c = λ these head all.
-    is_unknown _ these _ _ head all _ (rw c.in_default.is at c.in_ok-line.ensures.fault) c.in-Some-first_unknown.ensures
-
-pub returns-in-Some-2-clause-fault : goal.returns-in-Some-2-clause-fault
-returns-in-Some-2-clause-fault c = λ these head all.
-    is_limit _ these _ _ head all _ (rw c.in_default.is at c.in_ok-line.ensures.fault) c.in_default-first_unknown.ensures
-    (rw c.in-Some-2.is at c.in_ok-line-2.ensures)
+pub returns-in_err-stages-clause-fault : goal.returns-in_err-stages-clause-fault
+returns-in_err-stages-clause-fault c = passed_on _ _ _ c.from_residual-in_err-stages.ensures.1 (λ these head all.
+    grammar_fault c.args.tokens.now these (map (judged_by produced) c.args.list.now) all c.is_empty.result
+    (is_without_rule c.args.list.now _ c.is_empty.ensures) c.in_ok-labels.twice c.in_ok-unknown.unknown
+    c.in_ok-limit.limit c.in_ok-labels.ensures.first c.in_ok-unknown.ensures.first c.in_ok-limit.ensures.first
+    c.args.head c.with_head-unknown.result head c.with_head-unknown.ensures _ c.in_err-stages.ensures.fault)
 
 pub returns-clause-accepted : goal.returns-clause-accepted
 returns-clause-accepted c = λ these head all.
-    is_accepted _ these _ _ head all (rw c.in_default.is at c.in_ok-line.ensures.fault) c.in_default-first_unknown.ensures
-    (rw c.in_default-2.is at c.in_ok-line-2.ensures)
+    grammar_accepted c.args.tokens.now these (map (judged_by produced) c.args.list.now) all c.is_empty.result
+    (is_without_rule c.args.list.now _ c.is_empty.ensures) c.in_ok-labels.twice c.in_ok-unknown.unknown
+    c.in_ok-limit.limit c.in_ok-labels.ensures.first c.in_ok-unknown.ensures.first c.in_ok-limit.ensures.first
+    c.args.head c.with_head-unknown.result head c.with_head-unknown.ensures c.in_ok-stages.ensures.none

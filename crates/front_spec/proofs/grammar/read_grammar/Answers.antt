@@ -1,22 +1,22 @@
 -- The section, its lines, their faults, and then the grammar.
-use Rattle.std.proofs.Common.{arith}
+use Rattle.std.proofs.Common.{arith, refl}
 use Rattle.spec_text.proofs.Numbers.{section_grows}
 use Rattle.spec_text.proofs.PassedOn.{passed_on}
 use Rattle.front_spec.proofs.MadeGrammar.{declared_in_range}
-use Rattle.front_spec.proofs.ReadGrammar.{grammar_fault, list_few, list_grows, all_declared, declares, made_grammar}
+use Rattle.front_spec.proofs.ReadGrammar.{grammar_fault, shape_fault, list_few, list_grows, all_declared, declares, made_grammar}
 use Rattle.front_spec.proofs.grammar.read_grammar.Goals as goal
 
-pub productions-requires : goal.productions-requires
-productions-requires c =
+pub declared_lines-requires : goal.declared_lines-requires
+declared_lines-requires c =
     let is = c.grammar_of-text.ensures c.args.spec.now c.requires.read in
-    (is.these.inside, is.lines, section_grows c.args.spec.now is.has.section is.these is.has.has)
+    λ k. ((refl, tt), (is.these.inside, is.lines, section_grows c.args.spec.now is.has.section is.these is.has.has))
 
 pub returns-in_err-list-clause-fault : goal.returns-in_err-list-clause-fault
 returns-in_err-list-clause-fault c =
     let is = c.grammar_of-text.ensures c.args.spec.now c.requires.read in
     let tokens = c.args.rules.now.tokens in
     passed_on _ _ _ c.from_residual.ensures.1
-    (grammar_fault c.args.spec.now tokens _ is _ (c.in_err-list.ensures.fault tokens is.these is.lines
+    (shape_fault c.args.spec.now tokens _ is _ (c.in_err-list.ensures.fault is.these.inside is.lines
     (section_grows c.args.spec.now is.has.section is.these is.has.has)))
 
 pub declared_names-requires-clause-few : goal.declared_names-requires-clause-few
