@@ -1,6 +1,8 @@
 -- The first line past a limit: families and types so far, and the items of a line's type.
-use Rattle.std.proofs.Common.{◌≡◌, ℕ, zero, suc, ◌+◌, ◌-◌, ◌<◌, ◌≤◌, ◌⊎◌, inl, inr, ◌||◌, Bool, true, false, if◌then◌else◌, List, [], ◌∷◌, length, take, map, get_or, refl, sym, ap, subst, ◌∙◌, Some, IsTrue, ◌↔◌, arith, codes}
+use Rattle.std.proofs.Common.{◌≡◌, ℕ, zero, suc, ◌+◌, ◌-◌, ◌<◌, ◌≤◌, ◌⊎◌, inl, inr, Bool, true, false, if◌then◌else◌, List, [], ◌∷◌, length, take, map, get_or, refl, sym, ap, subst, ◌∙◌, Some, IsTrue, ◌↔◌, arith, codes}
 use Rattle.std.specs.List.{slice_get}
+use Rattle.std.specs.Option.{is_some}
+use Rattle.std.specs.Prelude.{unwrap_or}
 use Rattle.std.specs.Str.{bytes_eq}
 use Rattle.std.proofs.lemmas.List.{length-map}
 use Rattle.value_store.specs.declared.value.ValType.{ValType}
@@ -19,6 +21,7 @@ use Rattle.node_spec.specs.within.AstSeen.{declared_by, item_seen}
 use Rattle.node_spec.specs.within.AstWalks.{HasTooMany, IsPastLimit, child_said, families_said, item_word, row_number, types_said}
 use Rattle.node_spec.specs.declared.ast_line.AstLine.{AstLine}
 use Rattle.node_spec.specs.declared.ast_line.ItemText.{ItemText}
+use Rattle.node_spec.proofs.ItemWords.{word_by}
 use Rattle.node_spec.proofs.AstRowLists.{next_family_count, next_type_count, row_here}
 
 pub line_at : (list : List AstLine) (i : ℕ) (p : AstLine) → i < length list
@@ -30,7 +33,7 @@ line_end i list less more = omega (arith, less, more, length-map list declared_b
 
 -- the type of an item by four tests
 abbrev picked : Bool → Bool → Bool → Bool → ℕ → ValType
-picked a b c d n = if a then ty.Int else if b then ty.Bool else if c then ty.Text else if d then ty.Map else ty.Node n
+picked a b c d n = unwrap_or (word_by a b c d) (ty.Node n)
 
 same_children : (a b c d : Bool) (n m : ℕ) (l k : List ℕ) → length l ≡ length k
     → length (child_then (picked a b c d n) l) ≡ length (child_then (picked a b c d m) k)
@@ -84,7 +87,7 @@ both_counts (item ∷ items) =
 
 -- the count of children with one item more
 count_then : (a b c d : Bool) (n : ℕ) (l : List ℕ)
-    → length (child_then (picked a b c d n) l) ≡ (if a || (b || (c || d)) then 0 else 1) + length l
+    → length (child_then (picked a b c d n) l) ≡ (if is_some (word_by a b c d) then 0 else 1) + length l
 count_then true b c d n l = omega arith
 count_then false true c d n l = omega arith
 count_then false false true d n l = omega arith

@@ -1,5 +1,5 @@
 -- The passes over the lines for kind unknown, and the first of what they find.
-use Rattle.std.proofs.Common.{◌≡◌, ℕ, zero, suc, ◌+◌, ◌<◌, ◌≤◌, ◌⊎◌, inl, inr, List, [], ◌∷◌, length, take, map, get_or, refl, sym, ap, subst, ◌∙◌, Option, Some, None, Contains, MatchOption, arith}
+use Rattle.std.proofs.Common.{◌≡◌, ℕ, ◌+◌, ◌<◌, ◌≤◌, ◌⊎◌, inl, inr, List, [], ◌∷◌, length, take, map, get_or, refl, sym, ap, subst, ◌∙◌, Option, Some, None, Contains, MatchOption, arith}
 use Rattle.std.specs.List.{slice_get}
 use Rattle.std.proofs.lemmas.List.{length-map}
 use Rattle.ck_base.specs.Numbered.{met}
@@ -12,11 +12,11 @@ use Rattle.spec_text.proofs.Lists.{order, map_get, get_at}
 use Rattle.spec_text.proofs.Parting.{contains_at}
 use Rattle.node_spec.specs.AstShapes.{AstSaying, SaidItem, family, target, a_type, node, build}
 use Rattle.node_spec.specs.AstTables.{families_in, family_names, family_then, type_names}
-use Rattle.node_spec.specs.AstFaults.{AstFault, no_base, no_item_type, no_nonterminal, no_family, no_rule, no_maker, AstHeadFault, name_then, names_in, item_words}
+use Rattle.node_spec.specs.AstFaults.{AstFault, no_base, no_item_type, no_nonterminal, no_family, no_rule, no_maker, AstHeadFault, name_then, names_in}
 use Rattle.node_spec.specs.declared.ast_line.ItemText.{ItemText}
 use Rattle.node_spec.specs.within.AstSeen.{item_seen}
 use Rattle.node_spec.specs.within.AstSteps.{FirstWith, HasIn, IsBefore, Either, earlier_of}
-use Rattle.node_spec.specs.within.AstUnknown.{type_then, types_in, HasNoBase, IsItemWord, IsUnknownType, HasUnknownItem, BaseFault, ItemFault, NodeFault, BuildFault}
+use Rattle.node_spec.specs.within.AstUnknown.{type_then, types_in, HasNoBase, IsUnknownType, HasUnknownItem, BaseFault, ItemFault, NodeFault, BuildFault}
 use Rattle.node_spec.proofs.AstGathered.{MetSoFar, name_of, names_gather, none_met, met_more}
 use Rattle.node_spec.proofs.AstFamilies.{families_within, types_within, types_named}
 use Rattle.node_spec.proofs.AstUnknownLists.{at_first, at_later, first_or_later, met_has, met_had, contains_within}
@@ -61,20 +61,6 @@ module _ (ds : List (Declared AstSaying)) (i : ℕ) (old : List (List ℕ)) (d :
     where
       back : (name : List ℕ) → Contains old name → Contains (names_in (take i ds)) name
       back name among = met_had [] (names_in (take i ds)) name (subst (λ l. Contains l name) so.gathered.are among)
-
--- the four words
-pub word_among : (of : List ℕ) → IsItemWord of → Contains item_words of
-word_among of (inl is) = (0, omega arith, sym is)
-word_among of (inr (inl is)) = (1, omega arith, sym is)
-word_among of (inr (inr (inl is))) = (2, omega arith, sym is)
-word_among of (inr (inr (inr is))) = (3, omega arith, sym is)
-
-pub word_of : (of : List ℕ) → Contains item_words of → IsItemWord of
-word_of of (zero, less, is) = inl (sym is)
-word_of of (suc zero, less, is) = inr (inl (sym is))
-word_of of (suc (suc zero), less, is) = inr (inr (inl (sym is)))
-word_of of (suc (suc (suc zero)), less, is) = inr (inr (inr (sym is)))
-word_of of (suc (suc (suc (suc k))), less, is) = absurd (omega (arith, less))
 
 -- the items before the one of a number
 abbrev pub ItemsBefore : List (List ℕ) → List SaidItem → ℕ → Type 0

@@ -1,5 +1,5 @@
 -- The table of types that the lines of AST declare, and the families of nonterminals.
-use Rattle.std.specs.Prelude.{ℕ, true, false, List, [], ◌∷◌, ◌++◌, map, Option, Some, None, unwrap_or, codes, if◌then◌else◌, slice_get}
+use Rattle.std.specs.Prelude.{ℕ, true, false, List, [], ◌∷◌, ◌++◌, map, Option, Some, None, unwrap_or, if◌then◌else◌, slice_get}
 use Rattle.std.specs.Str.{bytes_eq}
 use Rattle.value_store.specs.declared.value.ValType.{ValType}
 use Rattle.value_store.specs.declared.value.ValType.TheVariants as ty
@@ -8,6 +8,7 @@ use Rattle.ast_types.specs.declared.item.Item.{Item}
 use Rattle.ck_base.specs.Numbered.{number_of}
 use Rattle.section_frame.specs.Declares.{Declared}
 use Rattle.expr_read.specs.Spoken.{Spoken}
+use Rattle.expr_read.specs.TypeWords.{type_of_word}
 use Rattle.node_spec.specs.AstShapes.{AstSaying, SaidItem, family, target, a_type, node, build}
 
 -- the family that a line declares, before those of the lines behind it
@@ -81,12 +82,7 @@ family_number families name = unwrap_or (number_of families name) 0
 
 -- the type of an item: one of four words, else a family's nodes
 abbrev pub item_type : List (List ℕ) → List ℕ → ValType
-item_type families name =
-    if bytes_eq name (codes "int") then ty.Int else
-    if bytes_eq name (codes "bool") then ty.Bool else
-    if bytes_eq name (codes "text") then ty.Text else
-    if bytes_eq name (codes "map") then ty.Map else
-    ty.Node (family_number families name)
+item_type families name = unwrap_or (type_of_word name) (ty.Node (family_number families name))
 
 -- an item whose type is a plain one or a family's number
 abbrev pub item_of : List (List ℕ) → SaidItem → Item

@@ -13,6 +13,7 @@ ghost use Rattle.node_spec.specs.within.AstWalks.{HasTooMany, IsPastLimit, child
 
 use crate::ast_line::{AstLine, ItemText, Saying};
 use crate::rows::TypeRow;
+use expr_read::type_of_word;
 
 /// The first line by which there are more than 128 families or 512 types, or whose type has more
 /// than 8 children or 8 fields.
@@ -123,8 +124,5 @@ pub(crate) fn is_item_word(name: &[u8]) -> bool
     ensures is { result ≡ item_word name.now }
     ensures among { IsTrue result ↔ Contains item_words name.now }
 {
-    name == b"int".as_slice()
-        || name == b"bool".as_slice()
-        || name == b"text".as_slice()
-        || name == b"map".as_slice()
+    type_of_word(name).is_some()
 }

@@ -11,6 +11,7 @@ use crate::families::Families;
 use crate::rows::TypeRow;
 use ast_types::{Item, Types};
 use ck_base::{Name, NoMemory};
+use expr_read::type_of_word;
 use std::alloc::Global;
 use value_store::ValType;
 
@@ -145,17 +146,8 @@ fn item_with_type(alloc: Global, families: &Families, item: &ItemText<'_>) -> Re
 fn type_of_item(families: &Families, name: &[u8]) -> ValType
     ensures { result ≡ item_type families.now.names name.now }
 {
-    if name == b"int".as_slice() {
-        return ValType::Int;
+    match type_of_word(name) {
+        Some(of) => of,
+        None => ValType::Node(families.number_of(name)),
     }
-    if name == b"bool".as_slice() {
-        return ValType::Bool;
-    }
-    if name == b"text".as_slice() {
-        return ValType::Text;
-    }
-    if name == b"map".as_slice() {
-        return ValType::Map;
-    }
-    ValType::Node(families.number_of(name))
 }

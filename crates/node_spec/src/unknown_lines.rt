@@ -3,9 +3,10 @@ ghost use Rattle.std.specs.Prelude.{◌≡◌, ◌+◌, ◌<◌, ◌^◌, ◌↔
 ghost use Rattle.section_frame.specs.Declares.{Grow};
 ghost use Rattle.node_spec.specs.within.AstSeen.{declared_by, item_seen, saying_seen};
 ghost use Rattle.node_spec.specs.within.AstSteps.{FirstWith};
-ghost use Rattle.node_spec.specs.within.AstUnknown.{BaseFault, BuildFault, HasNoBase, HasNoItemType, HasUnknownItem, IsItemWord, IsUnknownBuild, IsUnknownNode, IsUnknownType, ItemFault, NodeFault};
+ghost use Rattle.node_spec.specs.within.AstUnknown.{BaseFault, BuildFault, HasNoBase, HasNoItemType, HasUnknownItem, IsUnknownBuild, IsUnknownNode, IsUnknownType, ItemFault, NodeFault};
 
 use crate::ast_line::{AstLine, ItemText, Saying};
+use crate::limits::is_item_word;
 use crate::names_of_lines::{declared_name, note};
 use ck_base::{Names, NoMemory};
 use expr_read::has_unknown;
@@ -96,16 +97,6 @@ fn is_unknown_type(families: &Names, of: &[u8]) -> bool
         return false;
     }
     is_missing(families, of)
-}
-
-/// Whether it is one of the four words.
-fn is_item_word(of: &[u8]) -> bool
-    ensures { IsTrue result ↔ IsItemWord of.now }
-{
-    of == b"int".as_slice()
-        || of == b"bool".as_slice()
-        || of == b"text".as_slice()
-        || of == b"map".as_slice()
 }
 
 /// The first NODE line whose nonterminal or family isn't there.

@@ -1,5 +1,5 @@
 -- What the passes for kind unknown see and look for. Only contracts within the crate cite these.
-use Rattle.std.specs.Prelude.{◌≡◌, ◌⊎◌, ℕ, ◌+◌, ◌<◌, Bool, true, false, List, [], ◌∷◌, ◌++◌, length, map, take, drop, Contains, Option, Some, None, unwrap_or, codes, slice_get}
+use Rattle.std.specs.Prelude.{◌≡◌, ◌⊎◌, ℕ, ◌+◌, ◌<◌, Bool, true, false, List, [], ◌∷◌, ◌++◌, length, map, take, drop, Contains, Option, Some, None, unwrap_or, slice_get}
 use Rattle.std.specs.Borrow.{Bor}
 use Rattle.cfg_model.specs.Cfg.{Rule}
 use Rattle.cfg_model.specs.declared.symbol.Sym.{Sym}
@@ -71,10 +71,6 @@ HasNoBase known (target name) = ⊥
 HasNoBase known (a_type name base items) = Contains known base → ⊥
 HasNoBase known (node nonterminal name) = ⊥
 HasNoBase known (build label e) = ⊥
-
--- one of the four words of items' types
-abbrev pub IsItemWord : List ℕ → Type 0
-IsItemWord of = (of ≡ codes "int") ⊎ ((of ≡ codes "bool") ⊎ ((of ≡ codes "text") ⊎ (of ≡ codes "map")))
 
 -- an item's type is neither one of the four words nor one of these families
 pub record IsUnknownType (families : List (List ℕ)) (of : List ℕ) : Type 0 where

@@ -1,12 +1,12 @@
 -- What the passes over lines and types say of one line, type or item. Only contracts within the crate cite these.
-use Rattle.std.specs.Prelude.{◌≡◌, ◌⊎◌, ℕ, ◌<◌, ◌≤◌, ◌||◌, Bool, true, false, List, [], ◌∷◌, ◌++◌, length, map, Contains, Option, Some, None, codes, if◌then◌else◌, slice_get, slice_index, unwrap_or}
-use Rattle.std.specs.Str.{bytes_eq}
+use Rattle.std.specs.Prelude.{◌≡◌, ◌⊎◌, ℕ, ◌<◌, ◌≤◌, Bool, true, false, List, [], ◌∷◌, ◌++◌, length, map, Contains, Option, Some, None, is_some, codes, if◌then◌else◌, slice_get, slice_index, unwrap_or}
 use Rattle.ast_types.specs.Items.{child_families, field_types}
 use Rattle.ast_types.specs.TypeTable.{NodeType, TypeTable, type_at}
 use Rattle.ast_types.specs.declared.item.Item.{Item}
 use Rattle.ck_base.specs.Numbered.{number_of}
 use Rattle.cfg_model.specs.Cfg.{Rule}
 use Rattle.cfg_model.specs.declared.symbol.Sym.TheVariants.{N}
+use Rattle.expr_read.specs.TypeWords.{type_of_word}
 use Rattle.node_spec.specs.AstShapes.{AstSaying, SaidItem, family, target, a_type, node, build}
 use Rattle.node_spec.specs.AstTables.{Row, family_number, item_of, row_in}
 use Rattle.node_spec.specs.AstFaults.{item_words}
@@ -31,8 +31,7 @@ types_said (build label e) = 0
 
 -- whether the name is one of the types that an item may have beside families
 abbrev pub item_word : List ℕ → Bool
-item_word name =
-    bytes_eq name (codes "int") || (bytes_eq name (codes "bool") || (bytes_eq name (codes "text") || bytes_eq name (codes "map")))
+item_word name = is_some (type_of_word name)
 
 -- how many children the item of this type is
 abbrev pub child_said : List ℕ → ℕ
