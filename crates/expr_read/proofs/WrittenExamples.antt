@@ -11,7 +11,7 @@ use Rattle.spec_text.specs.declared.token.SpecSort.TheVariants.{Word}
 use Rattle.expr_read.specs.Spoken.{Spoken, number, applied, no_spoken}
 use Rattle.expr_read.specs.Notation.{IsSpoken, tighter, nothing_follows, closing, an_application, no_arguments, own_words, words_behind}
 use Rattle.expr_read.specs.Resolving.{Vocabulary, has_unknown}
-use Rattle.expr_read.specs.Written.{AreTokensOf, StandsAt, IsFaultAt, unknown_name, no_meaning}
+use Rattle.expr_read.specs.Written.{AreTokensOf, StandsAt, bytes_between, IsFaultAt, unknown_name, no_meaning}
 use Rattle.spec_text.proofs.Lists.{not_among}
 use Rattle.expr_read.proofs.ExpressionExamples.{at_0, no_operator_follows}
 use Rattle.expr_read.proofs.OneSpoken.{one_spoken}
@@ -81,3 +81,10 @@ pub q_has_no_typing : (context : Context) (next : ℕ) → IsFaultAt no_words co
 q_has_no_typing context next (no_meaning e _ stands known none) =
     let same = (one_spoken call_of_q [] (drop next call_of_q) q e nothing_follows stands.follows spoken_q stands.is).0 in
     let both : true ≡ false = ap (has_unknown []) same ∙ known in cc
+
+-- of tokens of 1, 2 and 4 bytes those from the first one up to before the last one have 3
+abbrev of_length : ℕ → Placed
+of_length n = record { said = word (codes "a"); from = 0; to = n }
+
+pub up_to_the_end : bytes_between (of_length 1 ∷ of_length 2 ∷ of_length 4 ∷ []) 0 2 ≡ 3
+up_to_the_end = refl
