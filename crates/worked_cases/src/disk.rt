@@ -20,7 +20,7 @@ const LIMIT: usize = 60_000;
 const READS: [(&str, usize); 8] = [
     (LONG, 0),
     (LONG, 100),
-    (THERE, 200),
+    (THERE, 20),
     (LONG, 300),
     (LONG, 20_000),
     (LONG, 20_100),
