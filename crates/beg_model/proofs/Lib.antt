@@ -22,6 +22,5 @@ pub mod PatternMatching
 pub mod PatternsInRow
 pub mod RegisterExamples
 pub mod Search
-pub mod ShiftedLabels
 pub mod SizeBound
 pub mod TypedFit
