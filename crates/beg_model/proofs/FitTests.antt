@@ -5,10 +5,10 @@ use Rattle.ast_types.specs.TypeTable.{NodeType, TypeTable, type_at, IsA, itself,
 use Rattle.tree_store.specs.Forest.{Node}
 use Rattle.expr_lang.specs.Expression.{Expression}
 use Rattle.expr_lang.specs.PureValues.{PureValue, int, bool, text, map_of, token, source, node, bool_in}
-use Rattle.expr_lang.specs.ValueOf.{value_of}
+use Rattle.expr_lang.specs.ValueOf.{no_tokens, value_of}
 use Rattle.beg_model.specs.Rules.{Pattern, Patterns, leaf, any, bind, number, truth, string, tree, no_pattern, and_pattern, Rule}
 use Rattle.beg_model.specs.Fitting.{Target, Part, child, field, Subgoal, Shows, Fits, FitAll}
-use Rattle.beg_model.specs.Applies.{Applies, Holds, cost_at, no_tokens}
+use Rattle.beg_model.specs.Applies.{Applies, Holds, cost_at}
 use Rattle.beg_model.proofs.OneFit.{one_fit, one_showing}
 use Rattle.beg_model.proofs.Search.{Tested, same_or_other}
 

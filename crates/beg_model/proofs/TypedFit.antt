@@ -17,10 +17,10 @@ use Rattle.expr_lang.specs.OfType.{AreOf}
 use Rattle.expr_lang.specs.Plain.{Plain}
 use Rattle.expr_lang.specs.PureOf.{pure_of}
 use Rattle.expr_lang.specs.PureValues.{PureValue, int, bool, text, bool_in}
-use Rattle.expr_lang.specs.ValueOf.{value_of}
+use Rattle.expr_lang.specs.ValueOf.{no_tokens, value_of}
 use Rattle.value_store.specs.PlainTypes.{IsPlain, plain_int, plain_bool, plain_text}
 use Rattle.beg_model.specs.Rules.{Pattern, Patterns, Rule}
-use Rattle.beg_model.specs.Applies.{Holds, no_tokens}
+use Rattle.beg_model.specs.Applies.{Holds}
 use Rattle.beg_model.specs.Matching.{Matches, FitsOrNot, RuleFitsOrNot}
 use Rattle.beg_model.proofs.OneFit.{one_fit}
 use Rattle.beg_model.specs.Fitting.{Target, Part, child, field, Subgoal, Shows, Fits, FitAll, parts_by, item_types, field_value}

@@ -5,18 +5,14 @@ use Rattle.ast_types.specs.TypeTable.{TypeTable}
 use Rattle.tree_store.specs.Forest.{Node}
 use Rattle.expr_lang.specs.Expression.{Expression}
 use Rattle.expr_lang.specs.PureValues.{PureValue, bool_in}
-use Rattle.expr_lang.specs.ValueOf.{Tokens, value_of}
+use Rattle.expr_lang.specs.ValueOf.{no_tokens, value_of}
 use Rattle.beg_model.specs.Rules.{Rule, leaf}
 use Rattle.beg_model.specs.RuleMeaning.{rules_in}
 use Rattle.beg_model.specs.Fitting.{Target, target, Subgoal, child, Fits}
 use Rattle.beg_model.specs.Cover.{Application}
 use Rattle.beg_model.specs.declared.rules.CoverRules.{CoverRules}
 
--- a condition or a cost speaks of no tokens
-abbrev pub no_tokens : Tokens
-no_tokens = record { texts = []; places = [] }
-
--- the condition is true, where the variables have these values
+-- the condition is true, where the variables have these values; it speaks of no tokens
 abbrev pub Holds : Option Expression → List PureValue → Type 0
 Holds None env = Unit {0}
 Holds (Some e) env = bool_in (value_of no_tokens env e) ≡ true

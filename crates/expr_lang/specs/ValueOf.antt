@@ -69,6 +69,10 @@ pub record Tokens : Type 0 where
   pub texts : List (List ℕ)
   pub places : List (ℕ × ℕ)
 
+-- no tokens, for what speaks of none
+abbrev pub no_tokens : Tokens
+no_tokens = record { texts = []; places = [] }
+
 -- the text of a token, else none
 abbrev pub text_at : Tokens → ℕ → List ℕ
 text_at tokens k = unwrap_or (slice_get tokens.texts k) []

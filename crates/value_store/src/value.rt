@@ -27,3 +27,9 @@ pub enum Value {
     /// The made node in this cell.
     Made(u64),
 }
+
+impl Default for Value {
+    fn default() -> Value {
+        Value::Int(0)
+    }
+}
