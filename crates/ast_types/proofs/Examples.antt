@@ -1,9 +1,13 @@
 -- Items, bases and what a type is, each tried on a case where the nearest wrong reading differs.
-use Rattle.std.proofs.Common.{◌≡◌, ℕ, zero, suc, ◌<◌, ◌⊎◌, inl, inr, List, [], ◌∷◌, length, false, Some, None, refl, sym, ap, arith}
-use Rattle.std.specs.Prelude.{codes}
+use Rattle.std.proofs.Common.{◌≡◌, ℕ, zero, suc, ◌<◌, ◌≤◌, ◌⊎◌, inl, inr, List, [], ◌∷◌, length, true, false, Some, None, refl, sym, ap, arith}
+use Rattle.std.specs.Prelude.{codes, All}
+use Rattle.std.proofs.lemmas.List.Elements.{All-head, All-cons, All-nil}
+use Rattle.value_store.specs.PlainTypes.{IsPlain, plain_int, plain_bool, plain_text}
+use Rattle.value_store.specs.declared.value.ValType.{ValType}
 use Rattle.value_store.specs.declared.value.ValType.TheVariants as ty
+use Rattle.ast_types.specs.FitTypes.{HasFitItems}
 use Rattle.ast_types.specs.Items.{child_families, field_types}
-use Rattle.ast_types.specs.TypeTable.{Family, NodeType, TypeTable, type_at, IsA, itself, extends, base_items, BaseFits, IsSound}
+use Rattle.ast_types.specs.TypeTable.{Family, NodeType, TypeTable, family_at, type_at, IsA, itself, extends, base_items, BaseFits, IsSound}
 use Rattle.ast_types.proofs.Climbing.{climb, at_top, same_Some}
 use Rattle.ast_types.specs.declared.item.Item.{Item}
 
@@ -113,3 +117,46 @@ other_than_the_base is = omega (arith, is.base_family 1 0 refl)
 -- each family is there
 no_such_family : IsSound (table (record { name = codes "Any"; family = 1; base = None; items = [] } ∷ [])) → ⊥
 no_such_family is = omega (arith, is.family_there 0 (omega arith))
+
+-- a family of the source, and one of the target
+abbrev two_sides : TypeTable
+two_sides = record { families = record { name = codes "S"; target = false } ∷ record { name = codes "T"; target = true } ∷ []; types = [] }
+
+-- a type of the source's family
+abbrev with_items : List Item → NodeType
+with_items items = record { name = codes "Wide"; family = 0; base = None; items = items }
+
+-- so many children of the source's family
+abbrev children : ℕ → List Item
+children zero = []
+children (suc n) = left ∷ children n
+
+abbrev of_type : ValType → List Item
+of_type t = record { name = codes "part"; of = t } ∷ []
+
+abbrev IsOfSource : ℕ → Type 0
+IsOfSource f = (f < 2) × ((family_at two_sides.families f).target ≡ false)
+
+all_of_source : (n : ℕ) → All IsOfSource (child_families (children n))
+all_of_source zero = All-nil IsOfSource
+all_of_source (suc n) = All-cons IsOfSource 0 (child_families (children n)) (omega arith, refl) (all_of_source n)
+
+-- eight children aren't too many, and nine are
+eight_fit : HasFitItems two_sides (with_items (children 8))
+eight_fit = record { few_children = omega arith; few_fields = omega arith; plain = All-nil IsPlain; families = all_of_source 8 }
+
+nine_do_not : HasFitItems two_sides (with_items (children 9)) → ⊥
+nine_do_not is = let too_many : 9 ≤ 8 = is.few_children in omega (arith, too_many)
+
+-- a child of the other side doesn't fit
+other_side : HasFitItems two_sides (with_items (of_type (ty.Node 1))) → ⊥
+other_side is = let e = (All-head IsOfSource 1 [] is.families).1 in cc
+
+-- a field is no map
+map_for_a_field : HasFitItems two_sides (with_items (of_type ty.Map)) → ⊥
+map_for_a_field is = no_map ty.Map (All-head IsPlain ty.Map [] is.plain) refl
+  where
+    no_map : (t : ValType) → IsPlain t → t ≡ ty.Map → ⊥
+    no_map _ plain_int e = cc
+    no_map _ plain_bool e = cc
+    no_map _ plain_text e = cc

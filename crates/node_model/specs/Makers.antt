@@ -41,3 +41,7 @@ pub record IsMakerOf (table : TypeTable) (t : ℕ) (m : Maker) : Type 0 where
 pub record AreMakersOf (table : TypeTable) (target : Bool) (makers : List Maker) : Type 0 where
   pub each : (m : Maker) → Contains makers m → (t : ℕ) × IsTypeOf table target t × IsMakerOf table t m
   pub all : (t : ℕ) → IsTypeOf table target t → (m : Maker) × Contains makers m × IsMakerOf table t m
+
+-- each maker makes nodes of a type that there is, of either side
+abbrev pub AreMakers : TypeTable → List Maker → Type 0
+AreMakers table makers = (m : Maker) → Contains makers m → (t : ℕ) × (t < length table.types) × IsMakerOf table t m

@@ -17,7 +17,8 @@ use Rattle.expr_lang.specs.PureValues.{PureValue, PureValues, int, bool, text, n
 use Rattle.expr_lang.specs.Typing.{maker_of}
 use Rattle.node_model.specs.Makers.{IsMakerOf}
 use Rattle.tree_store.specs.Conforms.{IsOfKind, is_int, is_bool, is_text}
-use Rattle.tree_build.specs.Fitting.{as_field, AreMakers, FieldsFit, no_field_fits, and_field_fits, TreeFits, tree_fits, TreesFit, no_tree_fits, and_tree_fits}
+use Rattle.tree_store.specs.Fitting.{as_field, FieldsFit, no_field_fits, and_field_fits, TreeFits, tree_fits, TreesFit, no_tree_fits, and_tree_fits}
+use Rattle.node_model.specs.Makers.{AreMakers}
 
 -- the first maker of a type
 pub record IsFirst (ms : List Maker) (n : ℕ) (m : Maker) : Type 0 where

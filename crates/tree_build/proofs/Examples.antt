@@ -5,7 +5,6 @@ use Rattle.value_store.specs.declared.value.ValType.{ValType}
 use Rattle.value_store.specs.declared.value.ValType.TheVariants as ty
 use Rattle.value_store.specs.declared.value.Value.{Value}
 use Rattle.value_store.specs.declared.value.Value.TheVariants as value
-use Rattle.ast_types.specs.Items.{child_families}
 use Rattle.ast_types.specs.TypeTable.{TypeTable, type_at}
 use Rattle.ast_types.specs.declared.item.Item.{Item}
 use Rattle.expr_lang.specs.declared.expr.Function.TheVariants as function
@@ -20,10 +19,8 @@ use Rattle.cfg_model.specs.declared.symbol.Sym.TheVariants.{T}
 use Rattle.parse_driver.specs.declared.step.Step.TheVariants as act
 use Rattle.parse_driver.specs.declared.tokens.TokenRef.{TokenRef}
 use Rattle.node_model.specs.Nodes.{Nodes}
-use Rattle.tree_store.specs.Conforms.{IsOfKind, is_int, is_bool, is_text}
 use Rattle.tree_store.specs.Forest.{Node, node_at, children_at, IsChild}
 use Rattle.tree_build.specs.Built.{built, built_value, tokens_in_source, IsReading, LiesInSource, IsBuilt}
-use Rattle.tree_build.specs.Fitting.{as_field, TreeFits, tree_fits, TreesFit, no_tree_fits, and_tree_fits, FieldsFit, no_field_fits, and_field_fits, HasFewItems}
 use Rattle.tree_build.specs.Shown.{PureNode, pure_count, Show, none_shown, and_shown, nodes_of_value, pure_node, IsTreeOf}
 use Rattle.tree_build.specs.declared.error.BuildError.TheVariants as error
 use Rattle.tree_build.proofs.TokensListed.{shifted_yield}
@@ -186,73 +183,3 @@ side_by_side types v is =
     childless c zero i is = cc
     childless c (suc zero) i is = cc
     childless c (suc (suc p)) i is = cc
-
--- two families; of the first one `Leaf` without items and `Up (c: F, n: int)`, of the second one `Other`
-abbrev two_families : TypeTable
-two_families = record {
-  families = record { name = codes "F"; target = false } ∷ record { name = codes "G"; target = false } ∷ [];
-  types =
-      record { name = codes "Leaf"; family = 0; base = None; items = [] }
-      ∷ record {
-        name = codes "Up";
-        family = 0;
-        base = None;
-        items = record { name = codes "c"; of = ty.Node 0 } ∷ record { name = codes "n"; of = ty.Int } ∷ [];
-      }
-      ∷ record { name = codes "Other"; family = 1; base = None; items = [] }
-      ∷ [];
-}
-
-abbrev up : MadeTree → MadeTree
-up child = made 1 (and_trees child no_trees) (value.Int (pos 7) ∷ [])
-
--- a child may be of each type of its family
-up_fits : (child : MadeTree) → (type_at two_families.types (type_of child)).family ≡ 0 → TreeFits two_families child
-    → TreeFits two_families (up child)
-up_fits child family fits = tree_fits 1 _ _ (omega arith) (and_tree_fits child no_trees 0 [] family fits no_tree_fits)
-    (and_field_fits (value.Int (pos 7)) [] ty.Int [] (is_int (pos 7)) no_field_fits)
-
-both_types : TreeFits two_families (up (up (made 0 no_trees [])))
-both_types = up_fits _ refl (up_fits _ refl (tree_fits 0 no_trees [] (omega arith) no_tree_fits no_field_fits))
-
--- and of no other family
-other_family : TreeFits two_families (up (made 2 no_trees [])) → ⊥
-other_family fits = let is : 1 ≡ 0 = family_of_first two_families _ _ 0 [] (children_fit two_families 1 _ _ fits) in omega (arith, is)
-  where
-    children_fit : (table : TypeTable) (t : ℕ) (children : MadeTrees) (fields : List Value) → TreeFits table (made t children fields)
-        → TreesFit table children (child_families (type_at table.types t).items)
-    children_fit table _ _ _ (tree_fits t children fields within fit fields_fit) = fit
-
-    family_of_first : (table : TypeTable) (t : MadeTree) (ts : MadeTrees) (f : ℕ) (fs : List ℕ) → TreesFit table (and_trees t ts) (f ∷ fs)
-        → (type_at table.types (type_of t)).family ≡ f
-    family_of_first table _ _ _ _ (and_tree_fits t ts f fs family fits fit) = family
-
--- a bool is no int
-bool_for_int : FieldsFit (value.Bool true ∷ []) (ty.Int ∷ []) → ⊥
-bool_for_int fit = no_int _ _ (kind_of_first _ _ _ _ fit) refl refl
-  where
-    kind_of_first : (v : Value) (vs : List Value) (kind : ValType) (kinds : List ValType) → FieldsFit (v ∷ vs) (kind ∷ kinds)
-        → IsOfKind (as_field v) kind
-    kind_of_first _ _ _ _ (and_field_fits v vs kind kinds fits fit) = fits
-
-    no_int : (v : Value) (kind : ValType) → IsOfKind v kind → v ≡ value.Bool true → kind ≡ ty.Int → ⊥
-    no_int _ _ (is_int z) is is_kind = cc
-    no_int _ _ (is_bool b) is is_kind = cc
-    no_int _ _ (is_text t) is is_kind = cc
-
--- eight children aren't too many, and nine are
-abbrev child_item : Item
-child_item = record { name = codes "c"; of = ty.Node 0 }
-
-abbrev eight : List Item
-eight = child_item ∷ child_item ∷ child_item ∷ child_item ∷ child_item ∷ child_item ∷ child_item ∷ child_item ∷ []
-
-abbrev with_items : List Item → TypeTable
-with_items items = record { families = []; types = record { name = []; family = 0; base = None; items = items } ∷ [] }
-
-eight_are_few : HasFewItems (with_items eight)
-eight_are_few zero within = (omega arith, omega arith)
-eight_are_few (suc t) within = let first : suc t < 1 = within in absurd (omega (arith, first))
-
-nine_are_not : HasFewItems (with_items (child_item ∷ eight)) → ⊥
-nine_are_not few = let children : 9 ≤ 8 = (few 0 (omega arith)).0 in omega (arith, children)

@@ -12,7 +12,8 @@ use Rattle.ast_types.specs.TypeTable.{TypeTable, type_at}
 use Rattle.tree_store.specs.Conforms.{IsOfKind, Fits, Conforms}
 use Rattle.tree_store.specs.Forest.{Node, node_at, children_at, IsChild, IsForest, AreRoots, Under, here, below}
 use Rattle.tree_store.proofs.NodeAdded.{nat_lt_tells, child_of_more, child_kept, child_new}
-use Rattle.tree_build.specs.Fitting.{HasFewItems, as_field, FieldsFit, no_field_fits, and_field_fits, TreeFits, TreesFit, no_tree_fits, and_tree_fits}
+use Rattle.tree_store.specs.Fitting.{as_field, FieldsFit, no_field_fits, and_field_fits, TreeFits, TreesFit, no_tree_fits, and_tree_fits}
+use Rattle.ast_types.specs.FitTypes.{AreTypes}
 use Rattle.tree_build.specs.within.Laying.{joined, trees_count, Stand, none_stand, and_stands, Due, to_make, UnderOne, AreNodesOf, Laying}
 use Rattle.tree_build.specs.declared.laying.Task.{Task}
 use Rattle.tree_build.specs.declared.laying.Task.TheVariants as task
@@ -258,22 +259,22 @@ pub record Counts (cells : List Cell) (table : TypeTable) (c : ℕ) (done : List
   pub few_children : trees_count (children_of (tree_at cells c)) ≤ 8
   pub enough : trees_count (children_of (tree_at cells c)) ≤ length done
 
-pub counts : (cells : List Cell) (table : TypeTable) (whole : MadeTree) (c : ℕ) (tasks : List Task) (done : List ℕ) (nodes : List Node) (kind : ℕ) → HasFewItems table
+pub counts : (cells : List Cell) (table : TypeTable) (whole : MadeTree) (c : ℕ) (tasks : List Task) (done : List ℕ) (nodes : List Node) (kind : ℕ) → AreTypes table
     → Laying cells table whole (task.Make c ∷ tasks) done nodes → kind ≡ type_of (tree_at cells c) → Counts cells table c done kind
-counts cells table whole c tasks done nodes kind few laying e =
+counts cells table whole c tasks done nodes kind types laying e =
     let m = making cells table whole c tasks laying.trees laying.due in
     let parts = parts_of table (tree_at cells c) m.fits in
     let long = as_many_stand nodes done _ (subst (Stand nodes done) m.are laying.stand) in
     let count = count_joined m.below (children_of (tree_at cells c)) in
     let f = as_many_fields _ _ parts.fields in
     let t = as_many_trees table _ _ parts.children in
-    let short = few (type_of (tree_at cells c)) parts.there in
+    let short = fit_items table (type_of (tree_at cells c)) types.items parts.there in
     subst (λ k. Counts cells table c done k) (sym e) (record {
       there = parts.there;
       fields = sym f;
-      few_fields = (let low = short.1 in omega (arith, low, f));
+      few_fields = (let low = short.few_fields in omega (arith, low, f));
       children = sym t;
-      few_children = (let low = short.0 in omega (arith, low, t));
+      few_children = (let low = short.few_children in omega (arith, low, t));
       enough = omega (arith, long, count);
     })
 

@@ -7,7 +7,7 @@ use Rattle.value_store.specs.declared.value.Value.TheVariants as value
 use Rattle.expr_lang.specs.PureOf.{pure_field, pure_fields, pure_trees, pure_tree}
 use Rattle.expr_lang.specs.PureValues.{PureValue, PureValues, int, bool, text, map_of, token, source, node, no_pure, and_pure}
 use Rattle.tree_store.specs.Forest.{Node}
-use Rattle.tree_build.specs.Fitting.{as_field}
+use Rattle.tree_store.specs.Fitting.{as_field}
 use Rattle.tree_build.specs.Shown.{PureNode, pure_count, pure_count_all, root_from, roots_from, nodes_from, all_nodes_from, nodes_of_value, pure_node}
 use Rattle.tree_build.specs.within.Laying.{joined, trees_count, AreNodesOf}
 

@@ -13,7 +13,7 @@ use Rattle.tree_store.proofs.NodeAdded.{nat_lt_tells}
 use Rattle.tree_build.specs.Built.{IsBuilt}
 use Rattle.tree_build.specs.declared.error.BuildError.{BuildError}
 use Rattle.tree_build.specs.declared.error.BuildError.TheVariants as error
-use Rattle.tree_build.specs.Fitting.{TreeFits}
+use Rattle.tree_store.specs.Fitting.{TreeFits}
 use Rattle.tree_build.specs.Shown.{Show, none_shown, and_shown, pure_count, pure_count_all, all_nodes_from, pure_node, IsTreeOf}
 use Rattle.tree_build.specs.within.Laying.{Stand, none_stand, and_stands, Due, all_done, to_visit, to_come, Laying, UnderOne}
 use Rattle.tree_build.proofs.NodesNumbered.{fields_shown, nodes_of_whole}

@@ -30,9 +30,11 @@ use Rattle.cfg_model.specs.Derivation as cfg
 use Rattle.cfg_model.specs.Derivation.{Forest, yield, Derive, Derivation}
 use Rattle.node_model.specs.Makers.{IsMakerOf}
 use Rattle.node_model.specs.Nodes.{Nodes, IsSourceType, AreSourceMakers, FitGrammar, build_context, symbol_type}
-use Rattle.ast_types.specs.FitTypes.{HasFitItems}
 use Rattle.tree_build.specs.Built.{built, built_value, build_of, expression_in}
-use Rattle.tree_build.specs.Fitting.{AreMakers, TreeFits, HasFewItems}
+use Rattle.ast_types.specs.FitTypes.{HasFitItems}
+use Rattle.ast_types.proofs.FitItems.{fit_items}
+use Rattle.tree_store.specs.Fitting.{TreeFits}
+use Rattle.node_model.specs.Makers.{AreMakers}
 use Rattle.tree_build.proofs.Conforming.{first_of, tree_conforms}
 
 pub some_first : (ms : List Maker) (n : ℕ) (m : Maker) → Contains ms m → m.ty ≡ n → (x : Maker) × (maker_of ms n ≡ Some x)
@@ -87,15 +89,6 @@ item_more items ty.Token more all = field_more items ty.Token (All-head IsPlain 
 items_are : (items : List Item) → All IsPlain (field_types items) → AreItems (λ node family. false) (map (λ item. item.of) items) (length (child_families items)) (length (field_types items))
 items_are [] plain = no_items
 items_are (i ∷ items) plain = item_more items i.of (λ all. items_are items all) plain
-
-fit_items : (table : TypeTable) (t : ℕ) → All (HasFitItems table) table.types → t < length table.types → HasFitItems table (type_at table.types t)
-fit_items table t all within =
-    let d : NodeType = type_in None in
-    let is = slice_get-get_or table.types t d within in
-    subst (HasFitItems table) (sym (ap type_in is)) (All-get_or (HasFitItems table) table.types t d within all)
-
-pub few_items : (table : TypeTable) → All (HasFitItems table) table.types → HasFewItems table
-few_items table all t within = (let fit = fit_items table t all within in (fit.few_children, fit.few_fields))
 
 pub makers_make : (table : TypeTable) (makers : List Maker) → AreSourceMakers table makers → All (HasFitItems table) table.types
     → (n : ℕ) (m : Maker) → maker_of makers n ≡ Some m → MakesNodes (λ node family. false) m

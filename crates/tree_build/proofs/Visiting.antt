@@ -6,7 +6,7 @@ use Rattle.value_store.specs.MadeTrees.{MadeTree, MadeTrees, made, no_trees, and
 use Rattle.ast_types.specs.Items.{child_families, field_types}
 use Rattle.ast_types.specs.TypeTable.{TypeTable, type_at}
 use Rattle.tree_store.specs.Forest.{Node}
-use Rattle.tree_build.specs.Fitting.{FieldsFit, TreeFits, tree_fits, TreesFit, no_tree_fits, and_tree_fits}
+use Rattle.tree_store.specs.Fitting.{FieldsFit, TreeFits, tree_fits, TreesFit, no_tree_fits, and_tree_fits}
 use Rattle.tree_build.specs.within.Laying.{joined, trees_count, trees_from, Due, to_visit, to_make, load, to_come, Laying, Visits}
 use Rattle.tree_build.specs.declared.laying.Task.{Task}
 use Rattle.tree_build.specs.declared.laying.Task.TheVariants as task

@@ -17,7 +17,8 @@ ghost use Rattle.parse_driver.specs.Stream.{terminal_of};
 ghost use Rattle.parse_driver.specs.declared.tokens.TokenRef.{TokenRef};
 ghost use Rattle.tree_store.specs.Forest.{Node, IsChild, IsForest};
 ghost use Rattle.tree_build.specs.Built.{built, built_value};
-ghost use Rattle.tree_build.specs.Fitting.{AreMakers, TreeFits};
+ghost use Rattle.tree_store.specs.Fitting.{TreeFits};
+ghost use Rattle.node_model.specs.Makers.{AreMakers};
 ghost use Rattle.tree_build.specs.Shown.{pure_count, nodes_of_value, pure_node, linked, IsTreeOf};
 
 /// Law: what derivations build is of the types of their symbols: a token, or a node of the

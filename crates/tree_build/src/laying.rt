@@ -5,7 +5,8 @@ ghost use Rattle.value_store.specs.MadeTrees.{MadeTree, type_of, children_of, fi
 ghost use Rattle.ast_types.specs.Items.{child_families, field_types};
 ghost use Rattle.ast_types.specs.TypeTable.{type_at};
 ghost use Rattle.expr_lang.specs.PureOf.{pure_tree};
-ghost use Rattle.tree_build.specs.Fitting.{as_field, TreeFits, HasFewItems};
+ghost use Rattle.tree_store.specs.Fitting.{as_field, TreeFits};
+ghost use Rattle.ast_types.specs.FitTypes.{AreTypes};
 ghost use Rattle.tree_build.specs.Shown.{IsTreeOf};
 ghost use Rattle.tree_build.specs.within.Laying.{Laying, Visits, load, trees_count};
 ghost use Rattle.tree_build.specs.declared.error.BuildError.TheVariants as error;
@@ -33,7 +34,7 @@ pub enum Task {
 /// The tree of the made node in a cell. A node that stands at two places is laid out at both.
 pub fn lay_out(alloc: Global, types: &Types, cells: &Cells, root: u64) -> Result<Tree, BuildError>
     requires made { IsMade (cells_of cells.now.units) root }
-    requires few { HasFewItems types.now }
+    requires types { AreTypes types.now }
     requires fits { TreeFits types.now (tree_at (cells_of cells.now.units) root) }
     ensures shown { IfOk result (λ tree. (source literals : List ℕ) → IsTreeOf source literals
         types.now tree (pure_tree source literals (tree_at (cells_of cells.now.units) root))) }
@@ -62,7 +63,7 @@ fn take_up(
     done: &mut Vec<u32>,
     tree: &mut Tree,
 ) -> Result<(), NoMemory>
-    requires few { HasFewItems types.now }
+    requires types { AreTypes types.now }
     requires laying { (whole : MadeTree) × Laying (cells_of cells.now.units) types.now whole
         (task ∷ reverse tasks.old.items) done.old.items tree.old }
     ensures laying { IfOk result (λ _. (whole : MadeTree) → Laying (cells_of cells.now.units)
@@ -108,7 +109,7 @@ fn add_node(
     done: &mut Vec<u32>,
     tree: &mut Tree,
 ) -> Result<(), NoMemory>
-    requires few { HasFewItems types.now }
+    requires types { AreTypes types.now }
     requires laying { (whole : MadeTree) × (tasks : List Task) × Laying (cells_of cells.now.units)
         types.now whole (task.Make cell ∷ tasks) done.old.items tree.old }
     ensures { IfOk result (λ _. (whole : MadeTree) (tasks : List Task)

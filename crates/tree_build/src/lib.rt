@@ -8,7 +8,6 @@
 //! | steps replayed on a list of values | `src/building.rt`; `specs/within/Replaying.antt` |
 //! | the texts and places of a source's tokens | `src/token_list.rt`, `src/place.rt` |
 //! | a made node laid out as a tree | `src/laying.rt`; `specs/within/Laying.antt` |
-//! | a made tree that conforms to types | `specs/Fitting.antt` |
 //! | replaying leaves the value of the derivation | `proofs/Replayed.antt` |
 //! | that value is of its family, and its tree conforms | `src/laws.rt`; `proofs/Typed.antt`, `proofs/Conforming.antt` |
 //! | a visit, a node laid out | `proofs/Visiting.antt`, `proofs/NodeLaid.antt` |

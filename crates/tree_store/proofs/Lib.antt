@@ -1,5 +1,6 @@
 pub mod CallsToCome
 mod Examples
+mod FittingExamples
 mod ForestExamples
 pub mod LabelsRead
 pub mod LastIsRoot

@@ -1,4 +1,5 @@
 pub mod Conforms
+pub mod Fitting
 pub mod Folds
 pub mod Forest
 pub mod Linking

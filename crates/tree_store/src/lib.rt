@@ -4,6 +4,7 @@
 //! |---|---|
 //! | nodes and their children; roots; what lies under a node | `specs/Forest.antt` |
 //! | a tree that conforms to types | `specs/Conforms.antt` |
+//! | a made tree that conforms to types | `specs/Fitting.antt` |
 //! | the tree, and what each call makes of it | `src/tree.rt` |
 //! | what a walk calls; the fold | `src/visit.rt`; `specs/Folds.antt` |
 //! | preorder and postorder | `specs/Orders.antt` |

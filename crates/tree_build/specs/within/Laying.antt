@@ -7,7 +7,7 @@ use Rattle.ast_types.specs.TypeTable.{TypeTable}
 use Rattle.tree_store.specs.Conforms.{Conforms}
 use Rattle.tree_store.specs.Forest.{Node, node_at, children_at, IsForest, AreRoots, Under}
 use Rattle.expr_lang.specs.PureOf.{pure_trees}
-use Rattle.tree_build.specs.Fitting.{as_field, TreeFits}
+use Rattle.tree_store.specs.Fitting.{as_field, TreeFits}
 use Rattle.tree_build.specs.Shown.{pure_node, roots_from, all_nodes_from}
 use Rattle.tree_build.specs.declared.laying.Task.{Task}
 use Rattle.tree_build.specs.declared.laying.Task.TheVariants as task

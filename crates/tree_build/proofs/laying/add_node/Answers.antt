@@ -2,26 +2,26 @@ use Rattle.std.proofs.Common.{[], ◌∷◌, ◌++◌, ◌-◌, length, ap, ◌�
 use Rattle.std.proofs.lemmas.List.{length-drop, length-map}
 use Rattle.value_store.specs.Cells.{cells_of, tree_at}
 use Rattle.value_store.specs.MadeTrees.{fields_of}
-use Rattle.tree_build.specs.Fitting.{as_field}
+use Rattle.tree_store.specs.Fitting.{as_field}
 use Rattle.tree_build.proofs.NodeLaid.{counts, ready, added, fits_here, rest_is}
 use Rattle.tree_build.proofs.laying.add_node.Goals as goal
 
 pub field_count-count-requires : goal.field_count-count-requires
 field_count-count-requires c =
     let cells = cells_of c.args.cells.now.units in
-    let k = counts cells c.args.types.now _ c.args.cell _ _ _ c.type_of-ty.result c.requires.few c.requires.laying.2 c.type_of-ty.ensures in
+    let k = counts cells c.args.types.now _ c.args.cell _ _ _ c.type_of-ty.result c.requires.types c.requires.laying.2 c.type_of-ty.ensures in
     k.there
 
 pub copy_fields-requires-clause-count : goal.copy_fields-requires-clause-count
 copy_fields-requires-clause-count c =
     let cells = cells_of c.args.cells.now.units in
-    let k = counts cells c.args.types.now _ c.args.cell _ _ _ c.type_of-ty.result c.requires.few c.requires.laying.2 c.type_of-ty.ensures in
+    let k = counts cells c.args.types.now _ c.args.cell _ _ _ c.type_of-ty.result c.requires.types c.requires.laying.2 c.type_of-ty.ensures in
     c.field_count-count.ensures ∙ k.fields
 
 pub copy_fields-requires-clause-few : goal.copy_fields-requires-clause-few
 copy_fields-requires-clause-few c =
     let cells = cells_of c.args.cells.now.units in
-    let k = counts cells c.args.types.now _ c.args.cell _ _ _ c.type_of-ty.result c.requires.few c.requires.laying.2 c.type_of-ty.ensures in
+    let k = counts cells c.args.types.now _ c.args.cell _ _ _ c.type_of-ty.result c.requires.types c.requires.laying.2 c.type_of-ty.ensures in
     let few = k.few_fields in
     let e = c.field_count-count.ensures in
     let f = k.fields in
@@ -30,13 +30,13 @@ copy_fields-requires-clause-few c =
 pub child_count-requires : goal.child_count-requires
 child_count-requires c =
     let cells = cells_of c.args.cells.now.units in
-    let k = counts cells c.args.types.now _ c.args.cell _ _ _ c.type_of-ty.result c.requires.few c.requires.laying.2 c.type_of-ty.ensures in
+    let k = counts cells c.args.types.now _ c.args.cell _ _ _ c.type_of-ty.result c.requires.types c.requires.laying.2 c.type_of-ty.ensures in
     k.there
 
 pub overflow_sub-below : goal.overflow_sub-below
 overflow_sub-below c =
     let cells = cells_of c.args.cells.now.units in
-    let k = counts cells c.args.types.now _ c.args.cell _ _ _ c.type_of-ty.result c.requires.few c.requires.laying.2 c.type_of-ty.ensures in
+    let k = counts cells c.args.types.now _ c.args.cell _ _ _ c.type_of-ty.result c.requires.types c.requires.laying.2 c.type_of-ty.ensures in
     let enough = k.enough in
     let e = c.child_count.ensures in
     let f = k.children in
@@ -46,7 +46,7 @@ overflow_sub-below c =
 pub add-requires-clause-fits : goal.add-requires-clause-fits
 add-requires-clause-fits c =
     let cells = cells_of c.args.cells.now.units in
-    let k = counts cells c.args.types.now _ c.args.cell _ _ _ c.type_of-ty.result c.requires.few c.requires.laying.2 c.type_of-ty.ensures in
+    let k = counts cells c.args.types.now _ c.args.cell _ _ _ c.type_of-ty.result c.requires.types c.requires.laying.2 c.type_of-ty.ensures in
     let e = c.child_count.ensures in
     let f = k.children in
     let l = c.len.ensures in
@@ -58,7 +58,7 @@ add-requires-clause-fits c =
 pub add-requires-clause-few : goal.add-requires-clause-few
 add-requires-clause-few c =
     let cells = cells_of c.args.cells.now.units in
-    let k = counts cells c.args.types.now _ c.args.cell _ _ _ c.type_of-ty.result c.requires.few c.requires.laying.2 c.type_of-ty.ensures in
+    let k = counts cells c.args.types.now _ c.args.cell _ _ _ c.type_of-ty.result c.requires.types c.requires.laying.2 c.type_of-ty.ensures in
     let e = c.child_count.ensures in
     let f = k.children in
     let l = c.len.ensures in
@@ -73,7 +73,7 @@ add-requires-clause-few c =
 pub returns : goal.returns
 returns c = λ whole tasks laying.
     let cells = cells_of c.args.cells.now.units in
-    let k = counts cells c.args.types.now whole c.args.cell tasks _ _ c.type_of-ty.result c.requires.few laying c.type_of-ty.ensures in
+    let k = counts cells c.args.types.now whole c.args.cell tasks _ _ c.type_of-ty.result c.requires.types laying c.type_of-ty.ensures in
     let e = c.child_count.ensures in
     let f = k.children in
     let l = c.len.ensures in

@@ -1,7 +1,7 @@
 use Rattle.std.proofs.Common.{◌≡◌, take, map, length}
 use Rattle.value_store.specs.Cells.{cells_of, tree_at}
 use Rattle.value_store.specs.MadeTrees.{fields_of}
-use Rattle.tree_build.specs.Fitting.{as_field}
+use Rattle.tree_store.specs.Fitting.{as_field}
 use Rattle.tree_build.proofs.laying.copy_fields.Given as goal
 
 abbrev pub invariant-loop-i : goal.invariant-loop-i

@@ -1,13 +1,11 @@
 -- Made trees that conform to the types of nodes.
-use Rattle.std.specs.Prelude.{◌≡◌, ℕ, ◌<◌, ◌≤◌, pos, List, [], ◌∷◌, length, Contains}
+use Rattle.std.specs.Prelude.{◌≡◌, ℕ, ◌<◌, pos, List, [], ◌∷◌, length}
 use Rattle.value_store.specs.MadeTrees.{MadeTree, MadeTrees, made, no_trees, and_trees, type_of}
 use Rattle.value_store.specs.declared.value.ValType.{ValType}
 use Rattle.value_store.specs.declared.value.Value.{Value}
 use Rattle.value_store.specs.declared.value.Value.TheVariants as value
 use Rattle.ast_types.specs.Items.{child_families, field_types}
 use Rattle.ast_types.specs.TypeTable.{TypeTable, type_at}
-use Rattle.expr_lang.specs.declared.expr.Maker.{Maker}
-use Rattle.node_model.specs.Makers.{IsMakerOf}
 use Rattle.tree_store.specs.Conforms.{IsOfKind}
 
 -- a value as a field: what is no int, bool or text counts as 0, as in the pure value of a made node
@@ -35,12 +33,3 @@ mutual
     no_tree_fits : TreesFit table no_trees []
     and_tree_fits : (t : MadeTree) (ts : MadeTrees) (f : ℕ) (fs : List ℕ) → (type_at table.types (type_of t)).family ≡ f
         → TreeFits table t → TreesFit table ts fs → TreesFit table (and_trees t ts) (f ∷ fs)
-
--- no type has more than eight children or eight fields
-abbrev pub HasFewItems : TypeTable → Type 0
-HasFewItems table = (t : ℕ) → t < length table.types
-    → (length (child_families (type_at table.types t).items) ≤ 8) × (length (field_types (type_at table.types t).items) ≤ 8)
-
--- each maker makes nodes of a type that there is, of either side
-abbrev pub AreMakers : TypeTable → List Maker → Type 0
-AreMakers table makers = (m : Maker) → Contains makers m → (t : ℕ) × (t < length table.types) × IsMakerOf table t m
