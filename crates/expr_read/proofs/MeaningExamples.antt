@@ -12,7 +12,8 @@ use Rattle.spec_text.specs.Lexemes as lex
 use Rattle.spec_text.specs.Lexemes.{Form, a_number}
 use Rattle.value_store.specs.declared.value.ValType.{ValType}
 use Rattle.value_store.specs.declared.value.ValType.TheVariants as ty
-use Rattle.expr_read.specs.Resolving.{Vocabulary, resolved, has_unknown, dollars_in, dollar_name, Means, MeansNothing}
+use Rattle.expr_read.specs.Mentions.{dollars_in, named_in, by_name, by_pair}
+use Rattle.expr_read.specs.Resolving.{Vocabulary, resolved, has_unknown, dollar_name, Means, MeansNothing}
 use Rattle.expr_read.specs.Spoken.{number, truth, name, dollar, pair, binary, if_then, applied, no_spoken, and_spoken}
 
 -- variables `a`, `b` and `a`; makers `text`, `P` and `P`, of the types 4, 5 and 6; `a.b` is variable 7, and then 8
@@ -78,6 +79,11 @@ zero_in_front = a_number 48 (codes "1") refl refl
 by_its_number : resolved (record { variables = codes "$01" ∷ codes "$1" ∷ []; makers = []; types = []; dotted = [] }) (dollar 1) ≡ Some (ex.var 1)
 unfolding digits
 by_its_number = refl
+
+-- variables from left to right, each as often as it stands there; a maker's name is none
+names : named_in (binary op.Plus (pair (codes "c") (codes "n")) (applied (codes "P") (and_spoken (name (codes "n")) (and_spoken (name (codes "n")) no_spoken))))
+    ≡ by_pair (codes "c") (codes "n") ∷ by_name (codes "n") ∷ by_name (codes "n") ∷ []
+names = refl
 
 -- the numbers from left to right
 dollars : dollars_in (if_then (dollar 3) (applied (codes "P") (and_spoken (dollar 1) (and_spoken (dollar 2) no_spoken))) (dollar 1)) ≡ 3 ∷ 1 ∷ 2 ∷ 1 ∷ []

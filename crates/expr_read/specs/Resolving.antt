@@ -139,23 +139,3 @@ pub record Means (words : Vocabulary) (context : Context) (e : Spoken) (x : Expr
 -- it means none: a name stands for nothing, or there is no type
 abbrev pub MeansNothing : Vocabulary → Context → Spoken → Type 0
 MeansNothing words context e = (x : Expression) (t : ValType) → Means words context e x t → ⊥
-
--- the numbers behind `$` in an expression, from left to right
-abbrev mutual
-  pub dollars_in : Spoken → List ℕ
-  dollars_in (number n) = []
-  dollars_in (truth b) = []
-  dollars_in (string bytes) = []
-  dollars_in (name w) = []
-  dollars_in (dollar n) = n ∷ []
-  dollars_in (pair v w) = []
-  dollars_in (negative a) = dollars_in a
-  dollars_in (negated a) = dollars_in a
-  dollars_in (binary o a b) = dollars_in a ++ dollars_in b
-  dollars_in (if_then c a b) = dollars_in c ++ (dollars_in a ++ dollars_in b)
-  dollars_in (applied w args) = dollars_in_all args
-  dollars_in (grouped a) = dollars_in a
-
-  pub dollars_in_all : SpokenList → List ℕ
-  dollars_in_all no_spoken = []
-  dollars_in_all (and_spoken a more) = dollars_in a ++ dollars_in_all more

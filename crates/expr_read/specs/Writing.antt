@@ -1,7 +1,10 @@
 -- What the expressions of the program say.
 use Rattle.std.specs.Prelude.{List, [], ◌∷◌}
 use Rattle.expr_read.specs.Spoken.{Spoken, SpokenList, no_spoken, and_spoken}
+use Rattle.expr_read.specs.Mentions.{Named, by_name, by_dollar, by_pair}
 use Rattle.expr_read.specs.Spoken as spoken
+use Rattle.expr_read.specs.declared.mention.Mention.{Mention}
+use Rattle.expr_read.specs.declared.mention.Mention.TheVariants as mention
 use Rattle.expr_read.specs.declared.written.Written.{Written}
 use Rattle.expr_read.specs.declared.written.Written.TheOpen.{Written-F}
 use Rattle.expr_read.specs.declared.written.Written.TheFolds.{fold-Written}
@@ -29,3 +32,9 @@ node_spoken (Written-F.Grouped a) = spoken.grouped a.now
 -- the pure form of a written expression
 abbrev pub spoken_of : Written → Spoken
 spoken_of = fold-Written Spoken node_spoken
+
+-- the variable that a mention names
+abbrev pub named_by : Mention → Named
+named_by (mention.Name w) = by_name w.now
+named_by (mention.Dollar n) = by_dollar n
+named_by (mention.Pair v w) = by_pair v.now w.now

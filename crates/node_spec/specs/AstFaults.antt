@@ -11,7 +11,8 @@ use Rattle.ck_base.specs.declared.fault.Kind.{Kind}
 use Rattle.ck_base.specs.declared.fault.Kind.TheVariants.{Limit, Twice, Unknown, Typing}
 use Rattle.section_frame.specs.Declares.{Declared, Notation}
 use Rattle.expr_read.specs.Spoken.{Spoken}
-use Rattle.expr_read.specs.Resolving.{dollars_in, has_unknown, resolved}
+use Rattle.expr_read.specs.Mentions.{dollars_in}
+use Rattle.expr_read.specs.Resolving.{has_unknown, resolved}
 use Rattle.node_spec.specs.AstShapes.{AstSaying, SaidItem, AstShape, family, target, a_type, node, build}
 use Rattle.node_spec.specs.AstTables.{Row, families_in, family_names, family_number, rows_in, row_of, type_names, item_of, node_family, build_line}
 use Rattle.node_spec.specs.AstBuilds.{build_words, nodes_by, only_nonterminal}

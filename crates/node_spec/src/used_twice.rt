@@ -41,8 +41,7 @@ fn uses_twice(alloc: Global, g: &NamedGrammar, says: &Saying<'_>) -> Result<bool
     let Some(rule) = rule_of(g, label) else {
         return Ok(false);
     };
-    let mut numbers = Vec::new(alloc);
-    dollars_in(&e, &mut numbers)?;
+    let numbers = dollars_in(alloc, &e)?;
     let found = has_value_twice(alloc, rule.right.as_slice(), numbers.as_slice())?;
     Ok(found)
 }

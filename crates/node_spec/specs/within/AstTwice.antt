@@ -9,7 +9,7 @@ use Rattle.section_frame.specs.Declares.{Declared}
 use Rattle.node_spec.specs.AstShapes.{AstSaying, SaidItem, family, target, a_type, node, build}
 use Rattle.node_spec.specs.AstFaults.{DeclaresName, IsRuleOf, IsTwice, reserved_words, row_at}
 use Rattle.node_spec.specs.AstTables.{Row}
-use Rattle.expr_read.specs.Resolving.{dollars_in}
+use Rattle.expr_read.specs.Mentions.{dollars_in}
 use Rattle.expr_read.specs.Spoken.{Spoken}
 use Rattle.node_spec.specs.declared.declared_again.Sort.{Sort}
 use Rattle.node_spec.specs.declared.declared_again.Sort.TheVariants as sort
