@@ -11,7 +11,7 @@ use Rattle.ck_chain.proofs.AcceptedOrRefused.{spec_never_usage}
 use Rattle.ck_chain.proofs.OneAnswer.{never_usage}
 use Rattle.ck_tool.specs.Ran.{Sunk, Kept, Tells, told, cut, Ran, done, refusing, memory, reading, writing, UsageExactly, WritesOnlyDone, Answers, WantedMemory, NoneRose}
 use Rattle.ck_tool.specs.Wanted.{Settles, by_words, by_spec, by_tools, by_source, Wanted, AreTold}
-use Rattle.ck_tool.specs.Words.{AreRight}
+use Rattle.ck_tool.specs.Words.{AreRight, NeedMemory}
 use Rattle.ck_tool.specs.declared.stop.Stop.{Stop}
 use Rattle.ck_tool.specs.declared.stop.Stop.TheVariants.{Refused, ReadFault, NoMemory}
 use Rattle.ck_tool.specs.within.Stops.{Explains, Meets, answer_in}
@@ -20,7 +20,7 @@ use Rattle.ck_tool.proofs.OneOutcome.{one_outcome}
 
 -- a stop was explained
 pub by_stop : (words : List (List ℕ)) (found : Result (Vec ℕ Global) Stop) (out err : Sunk) (ends : Status) (stop : Stop) → found ≡ Err stop
-    → AreRight words → Kept out → Explains stop err ends → Ran words (λ answer. answer_in found ≡ Some answer) (found ≡ Err ReadFault) out err ends
+    → NeedMemory words → Kept out → Explains stop err ends → Ran words (λ answer. answer_in found ≡ Some answer) (found ≡ Err ReadFault) out err ends
 by_stop words found out err ends (Refused r) is right kept (inl tells) = refusing ends r (rw is refl) kept tells
 by_stop words found out err ends (Refused r) is right kept (inr tells) = memory ends right kept tells
 by_stop words found out err ends ReadFault is right kept tells = reading ends is kept tells
@@ -115,7 +115,7 @@ exactly_wanted contents words failed out err _ (refusing _ r wanted kept (told g
     inl (subst (λ o. Answers o out err (status_of r)) same (refl, kept, gained))
 exactly_wanted contents words failed out err _ (refusing _ r wanted kept (cut part)) are_told none answer other = absurd (none.lines part.3)
 exactly_wanted contents words failed out err _ (memory _ right kept (told gained)) are_told none answer other =
-    inr (record { right = right; is_memory = refl; kept = kept; told = gained })
+    inr (record { needs = right; is_memory = refl; kept = kept; told = gained })
 exactly_wanted contents words failed out err _ (memory _ right kept (cut part)) are_told none answer other = absurd (none.lines part.3)
 exactly_wanted contents words failed out err _ (reading ends rose kept tells) are_told none answer other = absurd (none.files rose)
 exactly_wanted contents words failed out err _ (writing ends bytes wanted part tells) are_told none answer other = absurd (none.output part.3)

@@ -1,7 +1,7 @@
 -- Words of a command line, tried on cases that are worked by hand.
 use Rattle.std.proofs.Common.{◌≡◌, [], ◌∷◌, codes, refl}
 use Rattle.ck_chain.specs.declared.stage.Stage.TheVariants.{Tokens, Derive, Tree}
-use Rattle.ck_tool.specs.Words.{AreRight, of_stage}
+use Rattle.ck_tool.specs.Words.{AreRight, NeedMemory, for_stage, of_stage}
 
 -- the words `tokens s x` are right
 right_words : AreRight (codes "tokens" ∷ codes "s" ∷ codes "x" ∷ [])
@@ -31,3 +31,7 @@ other_command : AreRight (codes "run" ∷ codes "s" ∷ codes "x" ∷ []) → �
 other_command (of_stage Tokens spec source are) = let words = are.words_are in cc
 other_command (of_stage Derive spec source are) = let words = are.words_are in cc
 other_command (of_stage Tree spec source are) = let words = are.words_are in cc
+
+-- wrong words need no memory
+needing_is_right : (words : List (List ℕ)) → NeedMemory words → AreRight words
+needing_is_right words (for_stage stage spec source are) = of_stage stage spec source are

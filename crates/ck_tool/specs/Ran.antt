@@ -7,7 +7,7 @@ use Rattle.ck_base.specs.declared.status.Status.TheVariants.{Done, Usage, Device
 use Rattle.std.specs.Io.KnownBytes.{Appends}
 use Rattle.ck_io.specs.Faults.{Rose}
 use Rattle.ck_chain.specs.Outcome.{Outcome, output, refused}
-use Rattle.ck_tool.specs.Words.{AreRight}
+use Rattle.ck_tool.specs.Words.{AreRight, NeedMemory}
 
 -- a sink before and after a run: what it tells of its bytes, and its count of faults
 pub record Sunk : Type 0 where
@@ -59,7 +59,7 @@ pub data Ran (words : List (List ℕ)) (wants : Outcome → Type 0) (read_failed
   refusing : (ends : Status) (r : Refusal) → wants (refused r) → Kept out
       → Tells (line_of r) (status_of r) err ends → Ran words wants read_failed out err ends
   -- memory was wanting
-  memory : (ends : Status) → AreRight words → Kept out → Tells (codes "out of memory") Memory err ends
+  memory : (ends : Status) → NeedMemory words → Kept out → Tells (codes "out of memory") Memory err ends
       → Ran words wants read_failed out err ends
   -- the count of a file rose
   reading : (ends : Status) → read_failed → Kept out
@@ -82,9 +82,9 @@ abbrev pub Answers : Outcome → Sunk → Sunk → Status → Type 0
 Answers (output bytes) out err ends = (ends ≡ Done) × Gained out bytes × Kept err
 Answers (refused r) out err ends = (ends ≡ status_of r) × Kept out × Gained err (ended (line_of r))
 
--- right words, and memory was wanting
+-- words that need memory, and it was wanting
 pub record WantedMemory (words : List (List ℕ)) (out err : Sunk) (ends : Status) : Type 0 where
-  pub right : AreRight words
+  pub needs : NeedMemory words
   pub is_memory : ends ≡ Memory
   pub kept : Kept out
   pub told : Gained err (ended (codes "out of memory"))

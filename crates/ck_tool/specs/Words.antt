@@ -20,6 +20,10 @@ pub record AreOfStage (words : List (List ℕ)) (stage : Stage) (spec source : L
   pub is_spec : IsFileName spec
   pub is_source : IsFileName source
 
+-- the words ask for what takes memory; one case for each shape of a command line that does
+pub data NeedMemory (words : List (List ℕ)) : Type 0 where
+  for_stage : (stage : Stage) (spec source : List ℕ) → AreOfStage words stage spec source → NeedMemory words
+
 -- the words are right; one case for each shape of a command line
 pub data AreRight (words : List (List ℕ)) : Type 0 where
   of_stage : (stage : Stage) (spec source : List ℕ) → AreOfStage words stage spec source → AreRight words

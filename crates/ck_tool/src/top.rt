@@ -8,7 +8,7 @@ ghost use Rattle.ck_chain.specs.Outcome.{Outcome};
 ghost use Rattle.ck_chain.specs.Promise.{tools_of};
 ghost use Rattle.ck_tool.specs.Ran.{Answers, NoneRose, Ran, UsageExactly, WantedMemory, WritesOnlyDone, sunk};
 ghost use Rattle.ck_tool.specs.Wanted.{AreTold, ReadFailed, Wanted};
-ghost use Rattle.ck_tool.specs.Words.{AreRight};
+ghost use Rattle.ck_tool.specs.Words.{NeedMemory};
 ghost use Rattle.ck_tool.specs.within.Stops.{Explains, IsAsked, IsMissing, IsStopOfRead, Meets, answer_in};
 
 use crate::stop::Stop;
@@ -133,7 +133,7 @@ fn finish<O: Sink, E: Sink>(
     out: &mut O,
     err: &mut E,
 ) -> Status
-    ensures { (words : List (List ℕ)) → AreRight words
+    ensures { (words : List (List ℕ)) → NeedMemory words
         → Ran words (λ answer. answer_in found ≡ Some answer) (found ≡ Err Stop.ReadFault)
         (sunk O.written O.faults out.old out.new) (sunk E.written E.faults err.old err.new) result }
 {

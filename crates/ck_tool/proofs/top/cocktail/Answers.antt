@@ -1,7 +1,7 @@
 -- The words are wrong, or the run ends by what was found.
 use Rattle.std.proofs.Common.{map, string_bytes, refl}
 use Rattle.ck_tool.specs.Wanted.{ReadFailed}
-use Rattle.ck_tool.specs.Words.{of_stage}
+use Rattle.ck_tool.specs.Words.{for_stage, of_stage}
 use Rattle.ck_tool.proofs.Ends.{by_wrong_words, usage_by_words, by_found, usage_by_run, writes_only_done, exactly_wanted}
 use Rattle.ck_tool.proofs.top.cocktail.Goals as goal
 
@@ -18,14 +18,14 @@ pub returns-clause-run : goal.returns-clause-run
 returns-clause-run g c =
     let asked = c.in-Some.ensures in
     let found = c.answer_of-found in
-    by_found _ _ _ _ _ _ found.result (found.ensures.answer _ asked) (c.finish.ensures _ (of_stage _ _ _ asked))
+    by_found _ _ _ _ _ _ found.result (found.ensures.answer _ asked) (c.finish.ensures _ (for_stage _ _ _ asked))
 
 pub returns-clause-exactly : goal.returns-clause-exactly
 returns-clause-exactly g c =
     let asked = c.in-Some.ensures in
     let found = c.answer_of-found in
     exactly_wanted _ _ _ _ _ _
-    (by_found _ _ _ _ _ _ found.result (found.ensures.answer _ asked) (c.finish.ensures _ (of_stage _ _ _ asked)))
+    (by_found _ _ _ _ _ _ found.result (found.ensures.answer _ asked) (c.finish.ensures _ (for_stage _ _ _ asked)))
 
 pub returns-clause-usage : goal.returns-clause-usage
 returns-clause-usage g c =
@@ -35,7 +35,7 @@ returns-clause-usage g c =
     let found = c.answer_of-found in
     usage_by_run (files.contents c.args.files.now) words
     (ReadFailed files.contents files.faults words c.args.files.now found.new.files) _ _ _ (of_stage _ _ _ asked)
-    (by_found _ _ _ _ _ _ found.result (found.ensures.answer _ asked) (c.finish.ensures _ (of_stage _ _ _ asked)))
+    (by_found _ _ _ _ _ _ found.result (found.ensures.answer _ asked) (c.finish.ensures _ (for_stage _ _ _ asked)))
 
 pub returns-clause-output : goal.returns-clause-output
-returns-clause-output g c = writes_only_done _ _ _ _ _ _ (c.finish.ensures _ (of_stage _ _ _ c.in-Some.ensures))
+returns-clause-output g c = writes_only_done _ _ _ _ _ _ (c.finish.ensures _ (for_stage _ _ _ c.in-Some.ensures))
