@@ -1,5 +1,5 @@
 -- Refusals of a specification and the tools of an accepted one, tried on cases where a wrong reading would differ.
-use Rattle.std.proofs.Common.{◌≡◌, ℕ, ◌≤◌, true, false, List, [], ◌∷◌, length, Option, Some, None, codes, refl, arith}
+use Rattle.std.proofs.Common.{◌≡◌, ℕ, inl, ◌≤◌, true, false, List, [], ◌∷◌, length, Option, Some, None, codes, refl, arith}
 use Rattle.ck_base.specs.declared.fault.Kind.{Kind}
 use Rattle.ck_base.specs.declared.refusal.Refusal.{Refusal}
 use Rattle.ck_base.specs.declared.refusal.Refusal.TheVariants as refusal
@@ -10,7 +10,7 @@ use Rattle.ell_tables.specs.Promise as ll
 use Rattle.ell_tables.specs.declared.refusal.EllError.{EllError}
 use Rattle.ell_tables.specs.declared.refusal.EllError.TheVariants as ell
 use Rattle.rex_dfa.specs.declared.fault.DfaError.TheVariants as fault
-use Rattle.ck_chain.specs.Accepts.{RefusesSpec, of_rex}
+use Rattle.ck_chain.specs.Accepts.{RefusesSpec, of_one}
 use Rattle.ck_chain.specs.GrammarAccepts.{HasTable, for_ll, for_lr, HasNoTable, no_ll, no_lr, ell_refusal, lalr_refusal}
 use Rattle.ck_chain.specs.Promise.{IsParserOf, IsNamed}
 use Rattle.ck_chain.specs.RexAccepts.{RefusesRex, dfa_refusal}
@@ -25,7 +25,7 @@ told_as_1 = refl
 rex_first : (spec : List ℕ) (line : ℕ) (kind : Kind) → length spec ≤ 1048576 → RefusesRex spec (refusal.NullableRule 1)
     → RefusesSpec spec (refusal.BadSpec line kind) → ⊥
 rex_first spec line kind fits refuses other =
-    let same = one_refusal spec _ _ (of_rex fits _ refuses) other in cc
+    let same = one_refusal spec _ _ (of_one fits _ (inl refuses)) other in cc
 
 module _ (tokens : List (List ℕ)) (g : NamedGrammar) where
   -- a grammar under ELL needs an LL(1) table and no other
