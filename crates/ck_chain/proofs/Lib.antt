@@ -7,7 +7,6 @@ pub mod Examples
 mod GrammarStep
 mod HasRun
 mod InOrder
-mod NextPlace
 pub mod OneAnswer
 mod OneDeriving
 mod OneTreeing

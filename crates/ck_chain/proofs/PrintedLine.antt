@@ -4,9 +4,10 @@ use Rattle.std.proofs.lemmas.Option.{get_or_from_slice_get, slice_get-map}
 use Rattle.rex_model.specs.RuleMeaning.{rule_of}
 use Rattle.rex_model.specs.Rules.{Rule}
 use Rattle.rex_model.specs.declared.rules.ScanRule.{ScanRule}
-use Rattle.ck_chain.specs.within.Places.{IsPlace, printed_place, printed_token, printed_end}
+use Rattle.rex_model.specs.Place.{IsPlace}
+use Rattle.ck_chain.specs.within.Places.{printed_place, printed_token, printed_end}
 use Rattle.ck_chain.specs.TokenText.{place_text, token_line, end_line}
-use Rattle.ck_chain.specs.declared.place.Place.{Place}
+use Rattle.rex_model.specs.declared.place.Place.{Place}
 
 -- line and column of the place
 printed_place-is : (text : List ℕ) (place : Place) → IsPlace text place → printed_place place ≡ place_text text place.at

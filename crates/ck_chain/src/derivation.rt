@@ -13,14 +13,13 @@ ghost use Rattle.ck_chain.specs.within.Scanners.{NameTokens, ScansBy};
 ghost use Rattle.ck_chain.specs.within.Trees.{AreStepsOf};
 
 use crate::derive_text::steps_text;
-use crate::place::Place;
 use crate::refused::Refused;
 use crate::source_tokens::SourceTokens;
 use crate::toolset::Parser;
 use cfg_model::NamedGrammar;
 use ck_base::Refusal;
 use parse_driver::{ParseError, Step, parse_ll, parse_lr};
-use rex_model::{ScanRules, ScanTables};
+use rex_model::{Place, ScanRules, ScanTables};
 use std::alloc::Global;
 
 /// The printed derivation of the source's tokens by the grammar, or the first wrong place.
@@ -77,14 +76,14 @@ fn wrong_place(source: &[u8], error: ParseError) -> Refused
 {
     match error {
         ParseError::SyntaxError { at, .. } => {
-            let place = Place::START.forward(source, at as usize);
+            let place = Place::START.go_to(source, at as usize);
             Refused::Refusal(Refusal::SyntaxError {
                 line: place.line,
                 col: place.col,
             })
         }
         ParseError::BadToken { at } => {
-            let place = Place::START.forward(source, at as usize);
+            let place = Place::START.go_to(source, at as usize);
             Refused::Refusal(Refusal::BadToken {
                 line: place.line,
                 col: place.col,

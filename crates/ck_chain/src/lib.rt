@@ -22,7 +22,6 @@ mod derive_text;
 mod laws;
 mod naming;
 mod parser;
-mod place;
 mod refused;
 mod source_tokens;
 mod source_tree;

@@ -7,11 +7,10 @@ ghost use Rattle.ck_chain.specs.Scanning.{Scanning};
 ghost use Rattle.ck_chain.specs.within.Places.{printed_place, printed_token, printed_end};
 ghost use Rattle.ck_chain.specs.within.Scanners.{NameTokens, ScansBy};
 
-use crate::place::Place;
 use crate::refused::Refused;
 use ck_base::{NoMemory, Refusal};
 use quoting::{push_decimal, push_quoted};
-use rex_model::{Scan, ScanRules, ScanTables};
+use rex_model::{Place, Scan, ScanRules, ScanTables};
 use scan_driver::next;
 use std::alloc::Global;
 
@@ -39,7 +38,7 @@ pub(crate) fn tokens_text(
             } => {
                 let name = token_name(rules, rule);
                 push_token(&mut out, place, name, &source[place.at..to])?;
-                place = place.forward(source, to);
+                place = place.go_to(source, to);
                 state = after;
             }
             Scan::Skip {
@@ -47,7 +46,7 @@ pub(crate) fn tokens_text(
                 state: after,
                 ..
             } => {
-                place = place.forward(source, to);
+                place = place.go_to(source, to);
                 state = after;
             }
             Scan::End => {

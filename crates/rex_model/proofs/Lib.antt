@@ -14,6 +14,7 @@ pub mod Meanings
 mod MeaningsOfParts
 pub mod MeantRules
 mod MovesOfParts
+mod NextPlace
 mod OneAnswer
 pub mod OneRun
 pub mod OneWinner

@@ -8,7 +8,7 @@
 //! | scan rules, and what they mean | `src/rules.rt`; `specs/Rules.antt`, `specs/RuleMeaning.antt` |
 //! | candidates and the winner at a place | `specs/Winner.antt` |
 //! | what a scan answers; the tokens of a whole text | `src/scan.rt`; `specs/Run.antt` |
-//! | the line and the column of a place | `specs/Place.antt` |
+//! | a place of a text, with its line and column | `src/place.rt`, `specs/Place.antt` |
 //! | whether the empty word is in the language, how many positions | `src/empty_word.rt`, `src/counts.rt` |
 //! | the positions that come first, that follow one, that take a byte | `src/sets.rt`, `src/follows.rt`, `src/takers.rt`; `specs/Positions.antt` |
 //! | scanner tables, and what they mean | `src/tables.rt`; `specs/Runs.antt`, `specs/Tables.antt`, `specs/TableMeaning.antt` |
@@ -26,6 +26,7 @@ mod follows;
 mod laws;
 mod longest;
 mod pairs;
+mod place;
 mod position_sets;
 mod regex;
 mod rules;
@@ -41,6 +42,7 @@ pub use follows::follow;
 pub use laws::{
     at_most_one_run, at_most_one_winner, no_winner_at_end, same_tokens_after, same_winner, some_run,
 };
+pub use place::Place;
 pub use position_sets::PositionSets;
 pub use regex::Regex;
 pub use rules::{ScanRule, ScanRules};

@@ -1,6 +1,5 @@
 pub mod Conforming
 mod Examples
-pub mod NextPlace
 pub mod NodesLinked
 pub mod NodesNumbered
 pub mod NodeLaid

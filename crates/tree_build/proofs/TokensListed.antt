@@ -10,7 +10,7 @@ use Rattle.parse_driver.specs.declared.step.Step.{Step}
 use Rattle.parse_driver.specs.declared.step.Step.TheVariants as act
 use Rattle.parse_driver.specs.declared.tokens.TokenRef.{TokenRef}
 use Rattle.tree_build.specs.Built.{token_text, token_place, tokens_in_source}
-use Rattle.tree_build.specs.within.Places.{span_of}
+use Rattle.tree_build.specs.within.Spans.{span_of}
 use Rattle.tree_build.specs.within.Replaying.{shifted_by}
 
 -- what moves shift

@@ -1,4 +1,4 @@
 -- Words that only the contracts and proofs within this crate cite.
 pub mod Laying
-pub mod Places
 pub mod Replaying
+pub mod Spans

@@ -19,7 +19,6 @@ mod building;
 mod error;
 mod laws;
 mod laying;
-mod place;
 mod token_list;
 
 pub use building::build;

@@ -1,11 +1,12 @@
 // The tokens of a source that a derivation has shifted.
+ghost use Rattle.rex_model.specs.Place.{IsPlace};
 ghost use Rattle.std.specs.Prelude.{◌≡◌, ◌+◌, ◌^◌, ◌<◌, ◌++◌, ◌∷◌, [], All, length, map, IfOk};
 ghost use Rattle.tree_build.specs.Built.{token_place, LiesInSource};
-ghost use Rattle.tree_build.specs.within.Places.{IsPlace, span_of};
+ghost use Rattle.tree_build.specs.within.Spans.{span_of};
 ghost use Rattle.tree_build.specs.within.Replaying.{shifted_by};
 
-use crate::place::Place;
 use parse_driver::Step;
+use rex_model::Place;
 use std::alloc::Global;
 use value_store::{NoMemory, Text, TextOf};
 

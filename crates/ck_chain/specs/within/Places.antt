@@ -1,15 +1,8 @@
--- What a place of the program says of a text, and what is printed there.
-use Rattle.std.specs.Prelude.{◌≡◌, ℕ, ◌≤◌, List, [], ◌∷◌, ◌++◌, length, codes}
+-- What is printed at a place of a source.
+use Rattle.std.specs.Prelude.{ℕ, List, [], ◌∷◌, ◌++◌, codes}
 use Rattle.std.specs.Fmt.{decimal}
-use Rattle.rex_model.specs.Place.{line_at, column_at}
 use Rattle.quoting.specs.Quoted.{quoted}
-use Rattle.ck_chain.specs.declared.place.Place.{Place}
-
--- the place lies in the text or at its end, and has the line and the column there
-pub record IsPlace (text : List ℕ) (place : Place) : Type 0 where
-  pub within : place.at ≤ length text
-  pub line : place.line ≡ line_at text place.at
-  pub column : place.col ≡ column_at text place.at
+use Rattle.rex_model.specs.declared.place.Place.{Place}
 
 -- `line:col ` of the place
 abbrev pub printed_place : Place → List ℕ

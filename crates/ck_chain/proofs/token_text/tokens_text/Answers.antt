@@ -15,15 +15,15 @@ loop-rule-preserved-in-Token c =
     let named = name_of_token rules.rules.items rules.tokens _ c.in-Token.rule _ _ gives.is_rule gives.has_number c.token_name-name.ensures in
     let line = token_line_here rules.tokens _ _ _ gives.number c.in-Token.to c.loop-rule.invariant.0 named in
     let written = c.in_ok-push_token-in-Token.ensures ∙ ap (λ line. c.loop-rule.out.items ++ line) line in (
-      c.forward-place.ensures.is_place,
-      rw (c.forward-place.ensures.at, written) (takes _ _ _ _ _ _ _ _ _ c.loop-rule.invariant.1 gives),
+      c.go_to-place.ensures.is_place,
+      rw (c.go_to-place.ensures.at, written) (takes _ _ _ _ _ _ _ _ _ c.loop-rule.invariant.1 gives),
       token_inside _ _ c.requires.scans.next _ _ _ _ _ _ c.loop-rule.invariant.2 (c.in-Token.ensures _ c.requires.scans.gives),
     )
 
 pub loop-rule-preserved : goal.loop-rule-preserved
 loop-rule-preserved c =
     let gives = gives_none _ _ _ _ _ _ _ (c.in-Skip.ensures _ c.requires.scans.gives) in
-    let next = c.forward-place-in-Skip.ensures in
+    let next = c.go_to-place-in-Skip.ensures in
     (next.is_place, rw next.at (passes _ _ _ _ _ _ _ _ c.loop-rule.invariant.1 gives), skip_inside _ _ c.requires.scans.next _ _ _ _ _ _ c.loop-rule.invariant.2 (c.in-Skip.ensures _ c.requires.scans.gives))
 
 pub returns-in-End : goal.returns-in-End
@@ -43,15 +43,15 @@ returns-in-BadToken c =
 pub loop-rule-smaller-in-Token : goal.loop-rule-smaller-in-Token
 loop-rule-smaller-in-Token c =
     let gives = gives_token _ _ _ _ _ _ _ (c.in-Token.ensures _ c.requires.scans.gives) in
-    omega (arith, gives.forward, gives.within, c.forward-place.ensures.at)
+    omega (arith, gives.forward, gives.within, c.go_to-place.ensures.at)
 
-pub forward-place-requires-in-Skip-clause-within : goal.forward-place-requires-in-Skip-clause-within
-forward-place-requires-in-Skip-clause-within c = (gives_none _ _ _ _ _ _ _ (c.in-Skip.ensures _ c.requires.scans.gives)).within
+pub go_to-place-requires-in-Skip-clause-within : goal.go_to-place-requires-in-Skip-clause-within
+go_to-place-requires-in-Skip-clause-within c = (gives_none _ _ _ _ _ _ _ (c.in-Skip.ensures _ c.requires.scans.gives)).within
 
 pub loop-rule-smaller : goal.loop-rule-smaller
 loop-rule-smaller c =
     let gives = gives_none _ _ _ _ _ _ _ (c.in-Skip.ensures _ c.requires.scans.gives) in
-    omega (arith, gives.forward, gives.within, c.forward-place-in-Skip.ensures.at)
+    omega (arith, gives.forward, gives.within, c.go_to-place-in-Skip.ensures.at)
 
 pub token_name-name-requires-clause-rule : goal.token_name-name-requires-clause-rule
 token_name-name-requires-clause-rule c =

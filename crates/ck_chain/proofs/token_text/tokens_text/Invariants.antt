@@ -1,7 +1,7 @@
 -- The walk over the source so far, in one of the start states.
 use Rattle.std.proofs.Common.{◌-◌, ◌<◌, length}
 use Rattle.rex_model.specs.RuleMeaning.{rules_of}
-use Rattle.ck_chain.specs.within.Places.{IsPlace}
+use Rattle.rex_model.specs.Place.{IsPlace}
 use Rattle.ck_chain.proofs.Walk.{Walked}
 use Rattle.ck_chain.proofs.token_text.tokens_text.Given as goal
 

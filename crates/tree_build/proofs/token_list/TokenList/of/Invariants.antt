@@ -1,6 +1,7 @@
 use Rattle.std.proofs.Common.{◌≡◌, ◌++◌, map, drop}
 use Rattle.tree_build.specs.Built.{token_place}
-use Rattle.tree_build.specs.within.Places.{IsPlace, span_of}
+use Rattle.rex_model.specs.Place.{IsPlace}
+use Rattle.tree_build.specs.within.Spans.{span_of}
 use Rattle.tree_build.specs.within.Replaying.{shifted_by}
 use Rattle.tree_build.proofs.token_list.TokenList.of.Given as goal
 

@@ -1,7 +1,7 @@
 use Rattle.std.proofs.Common.{arith}
 use Rattle.std.proofs.lemmas.Option.{slice_get-get_or}
-use Rattle.ck_chain.proofs.NextPlace.{column_at-le}
-use Rattle.ck_chain.proofs.place.Place.forward.Goals as goal
+use Rattle.rex_model.proofs.NextPlace.{column_at-le}
+use Rattle.rex_model.proofs.place.Place.go_to.Goals as goal
 
 pub after-place-requires-clause-column : goal.after-place-requires-clause-column
 after-place-requires-clause-column c = omega (arith, column_at-le c.args.text.now c.loop-place.place.at)

@@ -1,6 +1,6 @@
 use Rattle.std.proofs.Common.{◌-◌, ◌≤◌}
-use Rattle.ck_chain.specs.within.Places.{IsPlace}
-use Rattle.ck_chain.proofs.place.Place.forward.Given as goal
+use Rattle.rex_model.specs.Place.{IsPlace}
+use Rattle.rex_model.proofs.place.Place.go_to.Given as goal
 
 abbrev pub invariant-loop-place : goal.invariant-loop-place
 invariant-loop-place l = (l.place.at ≤ l.to) × IsPlace l.text l.place

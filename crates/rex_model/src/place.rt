@@ -1,38 +1,45 @@
-// A place in a source: line, column and byte.
+// A place in a text: line, column and byte.
 ghost use Rattle.std.specs.Prelude.{◌≡◌, ℕ, ◌+◌, ◌^◌, ◌<◌, ◌≤◌, List, length, Some, slice_get};
-ghost use Rattle.ck_chain.specs.within.Places.{IsPlace};
+ghost use Rattle.rex_model.specs.Place.{IsPlace};
 
 /// A place in a text: the number of bytes before it, and its line and column, which count from 1.
 /// Columns count bytes.
 #[derive(Clone, Copy)]
-pub(crate) struct Place {
-    pub(crate) at: usize,
-    pub(crate) line: u32,
-    pub(crate) col: u32,
+pub struct Place {
+    pub at: usize,
+    pub line: u32,
+    pub col: u32,
 }
 
 impl Place {
     /// The beginning of every text.
-    pub(crate) const START: Place = Place {
+    pub const START: Place = Place {
         at: 0,
         line: 1,
         col: 1,
     };
 
-    /// The place `to` of the text, which this one isn't behind.
-    pub(crate) fn forward(self, text: &[u8], to: usize) -> Place
+    /// The place `to` of the text. It goes on from this one, or anew where this one is behind it.
+    pub fn go_to(self, text: &[u8], to: usize) -> Place
         requires is_place { IsPlace text.now self }
         requires small { length text.now + 1 < 2 ^ 32 }
-        requires not_behind { self.at ≤ to }
         requires within { to ≤ length text.now }
         ensures at { result.at ≡ to }
         ensures is_place { IsPlace text.now result }
     {
-        let mut place = self;
+        let mut place = self.not_behind(to);
         while place.at < to {
             place = place.after(text[place.at]);
         }
         place
+    }
+
+    /// This place, or the beginning where this one is behind `to`.
+    fn not_behind(self, to: usize) -> Place
+        ensures at { result.at ≤ to }
+        ensures is_place { (text : List ℕ) → IsPlace text self → IsPlace text result }
+    {
+        if to < self.at { Place::START } else { self }
     }
 
     /// The place after this byte, which stands here.

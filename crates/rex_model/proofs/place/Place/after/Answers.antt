@@ -1,6 +1,6 @@
 use Rattle.std.proofs.Common.{◌≡◌, ℕ, Some, slice_get, subst}
-use Rattle.tree_build.proofs.NextPlace.{after_feed, after_other}
-use Rattle.tree_build.proofs.place.Place.after.Goals as goal
+use Rattle.rex_model.proofs.NextPlace.{after_feed, after_other}
+use Rattle.rex_model.proofs.place.Place.after.Goals as goal
 
 pub returns-then-byte-eq10-clause-is_place : goal.returns-then-byte-eq10-clause-is_place
 returns-then-byte-eq10-clause-is_place c = λ text found is.

@@ -5,8 +5,8 @@ use Rattle.std.proofs.lemmas.List.Sums.{count_by_more_yes, count_by_more_no, suf
 use Rattle.std.proofs.lemmas.Option.{slice_get_within, get_or_from_slice_get}
 use Rattle.std.proofs.lemmas.Bool.{ne_eqb}
 use Rattle.rex_model.specs.Place.{column_at}
-use Rattle.tree_build.specs.within.Places.{IsPlace}
-use Rattle.tree_build.specs.declared.place.Place.{Place}
+use Rattle.rex_model.specs.Place.{IsPlace}
+use Rattle.rex_model.specs.declared.place.Place.{Place}
 
 -- the column after a byte, by the byte before the place
 column_at-feed : (text : List ℕ) (at : ℕ) → at < length text → eqb (get_or text at 0) 10 ≡ true → column_at text (at + 1) ≡ 1
