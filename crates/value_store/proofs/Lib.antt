@@ -4,3 +4,4 @@ pub mod NodeMade
 pub mod PairAdded
 pub mod PairFound
 pub mod PartsStand
+mod SlotsStay

@@ -10,6 +10,7 @@ ghost use Rattle.value_store.specs.declared.unit.StoreUnit.TheVariants as unit;
 use crate::memory::NoMemory;
 use crate::text::{Text, TextOf, Texts};
 use crate::unit::{MapUnit, NodeUnit, StoreUnit};
+use crate::units::Units;
 use crate::value::Value;
 use std::alloc::Global;
 use std::marker::Model;
@@ -18,23 +19,20 @@ use std::marker::Model;
 /// a node may be part of many others. Nothing here goes down a map or a tree by recursion.
 #[derive(Drop)]
 pub struct Cells {
-    units: Vec<StoreUnit>,
+    units: Units,
 }
 
 impl Model for Cells {
-    ghost use Rattle.std.specs.Prelude.{◌-◌, ◌+◌, ℕ, vec_capacity, length, slice_get, Some, ◌≡◌};
+    ghost use Rattle.std.specs.Prelude.{◌+◌, ℕ, slice_get, Some, ◌≡◌};
     ghost use Rattle.value_store.specs.Cells.{Store, cells_of};
     ghost use Rattle.value_store.specs.UnitFacts.{Says};
 
     ghost Value = { Store };
 
-    ghost view = { λ s. record {
-      units = s.units.items;
-      spare = vec_capacity s.units - length s.units.items;
-    } };
+    ghost view = { λ s. s.units };
 
-    ghost invariant = { λ s. (i : ℕ) (u : _) → slice_get s.units.items i ≡ Some u
-        → Says (cells_of s.units.items) (i + 1) u };
+    ghost invariant = { λ s. (i : ℕ) (u : _) → slice_get s.units.units i ≡ Some u
+        → Says (cells_of s.units.units) (i + 1) u };
 }
 
 impl Cells {
@@ -43,7 +41,7 @@ impl Cells {
         ensures { result.units ≡ [] }
     {
         Cells {
-            units: Vec::new(alloc),
+            units: Units::new(alloc),
         }
     }
 
@@ -80,7 +78,8 @@ impl Cells {
             number: v,
             size: size + 1,
         };
-        self.units.push(StoreUnit::Entry(entry))?;
+        self.units.reserve(1)?;
+        self.units.push_entry(entry);
         Ok(self.units.len() as u64)
     }
 
@@ -139,11 +138,11 @@ impl Cells {
         push_fields(&mut self.units, fields);
         let node = NodeUnit {
             ty,
-            children: children.len() as u32,
-            fields: fields.len() as u32,
             nodes,
+            children: children.len() as u8,
+            fields: fields.len() as u8,
         };
-        self.units.push(StoreUnit::Node(node)).unwrap();
+        self.units.push_node(node);
         Ok(self.units.len() as u64)
     }
 
@@ -228,7 +227,7 @@ impl Cells {
         ensures says { Says (cells_of self.now.units) cell result }
         ensures small { cell < 2 ^ 63 }
     {
-        unit_at(self.units.as_slice(), (cell - 1) as usize)
+        self.units.at((cell - 1) as usize)
     }
 
     /// The newest pair of a map that has one.
@@ -262,9 +261,9 @@ impl Cells {
             StoreUnit::Node(node) => node,
             _ => NodeUnit {
                 ty: 0,
+                nodes: 0,
                 children: 0,
                 fields: 0,
-                nodes: 0,
             },
         }
     }
@@ -282,31 +281,23 @@ impl Cells {
 }
 
 /// Adds the children of a node, for which there is room.
-fn push_children(units: &mut Vec<StoreUnit>, children: &[u64])
-    requires { length units.old.items + length children.now ≤ vec_capacity units.old }
-    ensures items { units.new.items ≡ units.old.items ++ map part_of_child children.now }
-    ensures capacity { vec_capacity units.old ≤ vec_capacity units.new }
+fn push_children(units: &mut Units, children: &[u64])
+    requires { length children.now ≤ units.old.spare }
+    ensures items { units.new.units ≡ units.old.units ++ map part_of_child children.now }
+    ensures spare { units.old.spare ≤ units.new.spare + length children.now }
 {
     for child in children {
-        units.push(StoreUnit::Part(Value::Made(*child))).unwrap();
+        units.push_part(Value::Made(*child));
     }
 }
 
 /// Adds the fields of a node, for which there is room.
-fn push_fields(units: &mut Vec<StoreUnit>, fields: &[Value])
-    requires { length units.old.items + length fields.now ≤ vec_capacity units.old }
-    ensures items { units.new.items ≡ units.old.items ++ map unit.Part fields.now }
-    ensures capacity { vec_capacity units.old ≤ vec_capacity units.new }
+fn push_fields(units: &mut Units, fields: &[Value])
+    requires { length fields.now ≤ units.old.spare }
+    ensures items { units.new.units ≡ units.old.units ++ map unit.Part fields.now }
+    ensures spare { units.old.spare ≤ units.new.spare + length fields.now }
 {
     for field in fields {
-        units.push(StoreUnit::Part(*field)).unwrap();
+        units.push_part(*field);
     }
-}
-
-/// The unit at a place that there is.
-fn unit_at(units: &[StoreUnit], i: usize) -> StoreUnit
-    requires { i < length units.now }
-    ensures { slice_get units.now i ≡ Some result }
-{
-    units[i]
 }

@@ -8,6 +8,7 @@
 //! | maps as lists of pairs, made nodes as trees | `specs/Maps.antt`, `specs/MadeTrees.antt` |
 //! | the cells, and what each call makes of them | `src/cells.rt`; `specs/Cells.antt` |
 //! | what one unit of the store says of its cell | `src/unit.rt`; `specs/UnitFacts.antt` |
+//! | units packed into slots | `src/slot.rt`, `src/units.rt`; `specs/Slots.antt` |
 //! | adding a unit changes no cell | `proofs/CellsStay.antt` |
 //! | a pair in front, a made node | `proofs/PairAdded.antt`, `proofs/NodeMade.antt` |
 //! | a look-up in a map; the parts of a node | `proofs/PairFound.antt`, `proofs/PartsStand.antt` |
@@ -18,8 +19,10 @@ mod laws;
 mod literals;
 mod memory;
 mod name;
+mod slot;
 mod text;
 mod unit;
+mod units;
 mod value;
 
 pub use cells::Cells;

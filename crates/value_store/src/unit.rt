@@ -16,10 +16,10 @@ pub struct MapUnit {
 #[derive(Clone, Copy)]
 pub struct NodeUnit {
     pub ty: u32,
-    pub children: u32,
-    pub fields: u32,
     /// How many nodes its tree has; 1,048,577 where there are more.
     pub nodes: u32,
+    pub children: u8,
+    pub fields: u8,
 }
 
 /// A unit of a store. Unit n is the cell n + 1; cell 0 is the map of no pairs and has no unit.

@@ -5,6 +5,6 @@ use Rattle.value_store.proofs.cells.push_fields.Goals as goal
 
 pub loop-field-preserved : goal.loop-field-preserved
 loop-field-preserved c = record {
-  items = map-pushed unit.Part c.args.fields.now c.loop-field.field-index _ c.args.units.now.items c.loop-field.units.items c.push.new.self.items c.loop-field-test.true c.loop-field.invariant.items (rw c.unwrap.ensures at c.push.ensures.items);
-  room = let room = c.loop-field.invariant.room in omega (arith, c.push.ensures.capacity, room);
+  items = map-pushed unit.Part c.args.fields.now c.loop-field.field-index _ c.args.units.now.units c.loop-field.units.units c.push_part.new.self.units c.loop-field-test.true c.loop-field.invariant.items c.push_part.ensures.units;
+  room = let room = c.loop-field.invariant.room in omega (arith, c.push_part.ensures.spare, room);
 }
