@@ -5,7 +5,6 @@ mod CutWords
 mod DeadDfa
 mod DfaOfSets
 mod Examples
-mod FollowRows
 mod Joining
 mod MadeSplit
 mod MainTable
@@ -19,11 +18,15 @@ mod PartAlike
 mod PartOfTable
 mod Paths
 mod PositionsOfRows
+mod RowsFilled
+mod RowsSoFar
 mod RulesLeft
-mod RulesOfPositions
 mod SetRuns
 mod SplitSets
 mod StateNumbers
 mod TableOfSets
 mod TablesOfRules
+mod WalkOfParts
+mod WalkOfRules
 mod WinnersOfTables
+mod Weights

@@ -5,9 +5,9 @@ use Rattle.std.proofs.lemmas.Option.{slice_get-get_or, slice_get_within, get_or_
 use Rattle.ck_base.specs.BitSet.{BitSet, Has, Adds}
 use Rattle.ck_base.proofs.Representing.{element_at}
 use Rattle.rex_model.specs.Language.{Re}
-use Rattle.rex_model.specs.Positions.{position_count, has_empty, Takes, First, Last, Follow}
-use Rattle.rex_model.specs.Sets.{marked, FirstBackwards, FollowBackwards}
-use Rattle.rex_model.proofs.Within.{First-within, Last-within, Follow-within}
+use Rattle.rex_model.specs.Positions.{position_count, Takes, Follow}
+use Rattle.rex_model.specs.Sets.{marked, FollowBackwards}
+use Rattle.rex_model.proofs.Within.{First-within, Follow-within}
 use Rattle.rex_dfa.specs.within.Alike.{words_at, AreLike}
 use Rattle.rex_dfa.specs.within.Positions.{ArePositions, HasAt}
 use Rattle.rex_dfa.specs.within.Rows.{AreRows}
@@ -33,10 +33,10 @@ pub backwards_bound : (r : Re) (p q : ℕ) → FollowBackwards r p q → p < pos
 backwards_bound r p q (inl h) = let below = (Follow-within r 0 q p h).1.below in omega arith
 backwards_bound r p q (inr (h, at)) = let below = (First-within r 0 p h).below in omega arith
 
-pub takes_marked : (r : Re) (p b : ℕ) → Takes r 0 p b ↔ Takes (marked r) 0 p b
-takes_marked r p b = (λ h. inl h, back)
+pub takes_marked_at : (r : Re) (k p b : ℕ) → Takes r k p b ↔ Takes (marked r) k p b
+takes_marked_at r k p b = (λ h. inl h, back)
   where
-    back : Takes (marked r) 0 p b → Takes r 0 p b
+    back : Takes (marked r) k p b → Takes r k p b
     back (inl h) = h
     back (inr (at, is)) = absurd (true≢false (sym is.1))
 
@@ -100,40 +100,3 @@ befores_done follows p old to done = record {
   kept = done.adds.kept;
   more = λ i h. done.adds.more i (slice_get_within follows i h.0 h.1, h);
 }
-
--- the positions with which a word may end, among the first n
-pub record LastsUpTo (r : Re) (size n : ℕ) (set : BitSet) : Type 0 where
-  pub has_size : set.size ≡ size
-  pub has : (p : ℕ) → Has set p ↔ ((p < n) × Last r 0 p)
-
-pub lasts_done : (r : Re) (size : ℕ) (mid set : BitSet) → position_count r + 1 ≡ size → LastsUpTo r size size mid → Adds mid set (λ q. IsTrue (has_empty r) × (q ≡ position_count r))
-    → (p : ℕ) → Has set p ↔ FirstBackwards r p
-lasts_done r size mid set room done adds p = (
-  λ h. elim (adds.only p h) [ inl was ↦ inl ((done.has p).0 was).1 | inr new ↦ inr new ],
-  back,
-)
-  where
-    back : FirstBackwards r p → Has set p
-    back (inl last) = adds.kept p ((done.has p).1 (let below = (Last-within r 0 p last).below in omega arith, last))
-    back (inr new) = adds.more p new
-
--- one more row of those that come before
-pub befores_row : (r : Re) (size mark p : ℕ) (follows : List BitSet) (first fresh mid set : BitSet) (b : Bool) → AreRows size size (Follow r 0) follows → position_count r + 1 ≡ size
-    → ((q : ℕ) → Has first q ↔ First r 0 q) → Adds fresh mid (λ q. HasAt follows q p) → IsTrue b ↔ Has first p → Adds mid set (λ q. IsTrue b × (q ≡ mark)) → mark ≡ position_count r
-    → Adds fresh set (FollowBackwards r p)
-befores_row r size mark p follows first fresh mid set b rows room begins adds says more mark_is = record {
-  size = more.size ∙ adds.size;
-  only = λ q h. elim (more.only q h) [
-    | inl was ↦ elim (adds.only q was) [ inl old ↦ inl old | inr new ↦ inr (inl ((row_below size size (Follow r 0) follows rows bound q p).0 new)) ]
-    | inr new ↦ inr (inr ((begins p).0 (says.0 new.0), new.1 ∙ mark_is))
-  ];
-  kept = λ q h. more.kept q (adds.kept q h);
-  more = back;
-}
-  where
-    bound : (q k : ℕ) → Follow r 0 q k → q < size
-    bound q k h = let below = (Follow-within r 0 q k h).0.below in omega arith
-
-    back : (q : ℕ) → FollowBackwards r p q → Has set q
-    back q (inl h) = more.kept q (adds.more q ((row_below size size (Follow r 0) follows rows bound q p).1 h))
-    back q (inr (h, at)) = more.more q (says.1 ((begins p).1 h), at ∙ sym mark_is)

@@ -9,3 +9,4 @@ pub mod Positions
 pub mod Rows
 pub mod Splits
 pub mod Subset
+pub mod Walked

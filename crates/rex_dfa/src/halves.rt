@@ -5,12 +5,11 @@ ghost use Rattle.rex_model.specs.Positions.{position_count};
 ghost use Rattle.rex_model.specs.TableMeaning.{automaton_of};
 ghost use Rattle.rex_dfa.specs.within.Splits.{IsForward, HasMoreForward, IsBackward, HasMoreBackward};
 
-use crate::part_rows::{
-    befores_of, first_of_marked, lasts_of, marked_follows, positions_with, takers_of_part,
-};
+use crate::part_rows::{MarkedRows, befores_of, lasts_of, marked_rows, positions_with};
 use crate::parts::{Part, part_of};
-use ck_base::{Bits, NoMemory};
-use rex_model::{Regex, add_first, positions};
+use crate::walk::Rows;
+use ck_base::NoMemory;
+use rex_model::{Regex, positions};
 use std::alloc::Global;
 
 /// The automaton of the words of a body; `None` where it has more than 4,096 states.
@@ -21,11 +20,10 @@ pub(crate) fn forward_of(alloc: Global, r: &Regex) -> Result<Option<Part>, NoMem
 {
     let mark = positions(r);
     let size = mark + 1;
-    let takers = takers_of_part(alloc, r, size)?;
-    let follows = marked_follows(alloc, r, size)?;
+    let own = marked_rows(alloc, r, size)?;
+    let MarkedRows { rows, first } = own;
+    let Rows { takers, follows } = rows;
     let table = positions_with(alloc, size, takers, follows)?;
-    let mut first = Bits::new(alloc, size)?;
-    first_of_marked(r, &mut first);
     part_of(alloc, &table, first, mark)
 }
 
@@ -38,11 +36,12 @@ pub(crate) fn backward_of(alloc: Global, r: &Regex) -> Result<Option<Part>, NoMe
 {
     let mark = positions(r);
     let size = mark + 1;
-    let takers = takers_of_part(alloc, r, size)?;
-    let mut first = Bits::new(alloc, size)?;
-    add_first(r, 0, &mut first);
-    let befores = befores_of(alloc, r, &first, size)?;
+    let own = marked_rows(alloc, r, size)?;
+    let MarkedRows { rows, first } = own;
+    let Rows { takers, follows } = rows;
+    let follows = follows.as_slice();
+    let befores = befores_of(alloc, r, follows, &first, size)?;
+    let lasts = lasts_of(alloc, r, follows, &first, size)?;
     let table = positions_with(alloc, size, takers, befores)?;
-    let lasts = lasts_of(alloc, r, size)?;
     part_of(alloc, &table, lasts, mark)
 }

@@ -6,6 +6,7 @@
 //! | `build`: the tables of rules | `src/building.rt` |
 //! | why there are none | `src/fault.rt`; `specs/Faults.antt` |
 //! | positions with the bytes that they take and what follows them | `src/positions.rt`, `src/alike.rt`; `specs/within/Positions.antt` |
+//! | one walk over an expression, which finds both | `src/walk.rt`; `specs/within/Walked.antt` |
 //! | those of all rules | `src/rule_positions.rt`, `src/rule_rows.rt` |
 //! | those of one expression, also read from its end | `src/part_rows.rt` |
 //! | sets reached from first sets, their numbers and moves | `src/subset.rt`; `specs/within/Subset.antt` |
@@ -32,6 +33,7 @@ mod rule_rows;
 mod splitting;
 mod subset;
 mod table;
+mod walk;
 
 pub use building::build;
 pub use fault::DfaError;

@@ -10,8 +10,9 @@ ghost use Rattle.rex_dfa.specs.within.Main.{IsMain};
 use crate::marking::marks_of;
 use crate::part_rows::positions_with;
 use crate::rule_positions::positions_of_rule;
-use crate::rule_rows::{firsts_of, follows_of, takers_of};
+use crate::rule_rows::{RuleRows, rows_of};
 use crate::table::{Table, table_of};
+use crate::walk::Rows;
 use ck_base::NoMemory;
 use rex_model::ScanRule;
 use std::alloc::Global;
@@ -29,10 +30,10 @@ pub(crate) fn main_of(
         table.starts.items (automaton_of table.dfa))) }
 {
     let size = size_of(rules);
-    let takers = takers_of(alloc, rules, size)?;
-    let follows = follows_of(alloc, rules, size)?;
+    let all = rows_of(alloc, rules, states, size)?;
+    let RuleRows { rows, firsts } = all;
+    let Rows { takers, follows } = rows;
     let positions = positions_with(alloc, size, takers, follows)?;
-    let firsts = firsts_of(alloc, rules, states, size)?;
     let marks = marks_of(alloc, rules)?;
     table_of(alloc, &positions, &firsts, marks.as_slice())
 }

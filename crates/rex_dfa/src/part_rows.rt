@@ -2,16 +2,17 @@
 ghost use Rattle.std.specs.Prelude.{◌≡◌, ℕ, ◌+◌, ◌<◌, ◌≤◌, ◌^◌, ◌↔◌, IsTrue, All, IfOk, length};
 ghost use Rattle.ck_base.specs.BitSet.{Has, Adds};
 ghost use Rattle.rex_model.specs.Meaning.{meaning};
-ghost use Rattle.rex_model.specs.Positions.{position_count, has_empty, Takes, First, Follow};
+ghost use Rattle.rex_model.specs.Positions.{position_count, Takes, First, Follow};
 ghost use Rattle.rex_model.specs.Sets.{marked, FirstBackwards, FollowBackwards};
 ghost use Rattle.rex_dfa.specs.within.Rows.{AreRows};
 ghost use Rattle.rex_dfa.specs.within.Positions.{ArePositions, HasAt};
+ghost use Rattle.rex_dfa.specs.within.Walked.{IsTurned};
 
 use crate::alike::alike_of;
 use crate::positions::Positions;
-use crate::rule_positions::add_if;
+use crate::walk::{Rows, blank, walk_part};
 use ck_base::{Bits, NoMemory};
-use rex_model::{Regex, add_first, add_takers, follow, nullable, positions};
+use rex_model::{Regex, positions};
 use std::alloc::Global;
 
 /// A table of positions, with the bytes that are alike.
@@ -40,91 +41,76 @@ pub(crate) fn positions_with(
     })
 }
 
-/// For each byte the positions of the expression that take it.
-pub(crate) fn takers_of_part(alloc: Global, r: &Regex, size: u32) -> Result<Vec<Bits>, NoMemory>
-    requires { position_count (meaning r.now) + 1 ≤ size }
-    ensures { IfOk result (λ sets.
-        AreRows size 256 (λ byte p. Takes (meaning r.now) 0 p byte) sets.items) }
-{
-    let mut sets = Vec::new(alloc);
-    for byte in 0..256usize {
-        let mut set = Bits::new(alloc, size)?;
-        add_takers(r, 0, byte as u8, &mut set);
-        sets.push(set)?;
-    }
-    Ok(sets)
+/// The rows of an expression with its end mark, and its first positions.
+#[derive(Drop)]
+pub(crate) struct MarkedRows {
+    pub(crate) rows: Rows,
+    pub(crate) first: Bits,
 }
 
-/// For each position those that come directly after it, with the end mark.
-pub(crate) fn marked_follows(alloc: Global, r: &Regex, size: u32) -> Result<Vec<Bits>, NoMemory>
-    requires { position_count (meaning r.now) + 1 ≤ size }
-    ensures { IfOk result (λ sets.
-        AreRows size size (Follow (marked (meaning r.now)) 0) sets.items) }
+/// For each byte the positions of the expression that take it, for each position those that come
+/// directly after it, and the first ones, with the end mark.
+pub(crate) fn marked_rows(alloc: Global, r: &Regex, size: u32) -> Result<MarkedRows, NoMemory>
+    requires { position_count (meaning r.now) + 1 ≡ size }
+    ensures takers { IfOk result (λ own. AreRows size 256
+        (λ byte p. Takes (marked (meaning r.now)) 0 p byte) own.rows.takers.items) }
+    ensures follows { IfOk result (λ own. AreRows size size
+        (Follow (marked (meaning r.now)) 0) own.rows.follows.items) }
+    ensures size { IfOk result (λ own. own.first.size ≡ size) }
+    ensures first { IfOk result (λ own. (q : ℕ) →
+        Has own.first q ↔ First (marked (meaning r.now)) 0 q) }
 {
-    let mut sets = Vec::new(alloc);
-    for p in 0..size {
-        let mut set = Bits::new(alloc, size)?;
-        follow_in_marked(r, p, &mut set);
-        sets.push(set)?;
-    }
-    Ok(sets)
-}
-
-/// Adds the positions that come directly after position `p` of the expression with its end mark.
-fn follow_in_marked(r: &Regex, p: u32, to: &mut Bits)
-    requires room { position_count (meaning r.now) + 1 ≤ to.old.size }
-    requires fits { to.old.size < 2 ^ 32 }
-    ensures { Adds to.old to.new (Follow (marked (meaning r.now)) 0 p) }
-{
-    let last = follow(r, 0, p, to);
-    add_if(last, positions(r), to);
-}
-
-/// Adds the first positions of the expression with its end mark.
-pub(crate) fn first_of_marked(r: &Regex, to: &mut Bits)
-    requires room { position_count (meaning r.now) + 1 ≤ to.old.size }
-    requires fits { to.old.size < 2 ^ 32 }
-    ensures { Adds to.old to.new (First (marked (meaning r.now)) 0) }
-{
-    add_first(r, 0, to);
-    add_if(nullable(r), positions(r), to);
+    let mark = positions(r);
+    let mut rows = blank(alloc, size)?;
+    let mut first = Bits::new(alloc, size)?;
+    first.add(mark);
+    walk_part(alloc, r, mark, &mut first, &mut rows)?;
+    Ok(MarkedRows { rows, first })
 }
 
 /// For each position those that come directly before it, and the end mark for a first one.
 pub(crate) fn befores_of(
     alloc: Global,
     r: &Regex,
+    follows: &[Bits],
     first: &Bits,
     size: u32,
 ) -> Result<Vec<Bits>, NoMemory>
     requires room { position_count (meaning r.now) + 1 ≡ size }
-    requires first { (p : ℕ) → Has first.now p ↔ First (meaning r.now) 0 p }
+    requires follows { AreRows size size (Follow (marked (meaning r.now)) 0) follows.now }
+    requires first { (p : ℕ) → Has first.now p ↔ First (marked (meaning r.now)) 0 p }
     ensures { IfOk result (λ sets. AreRows size size (FollowBackwards (meaning r.now)) sets.items) }
 {
-    let follows = plain_follows(alloc, r, size)?;
-    let mark = positions(r);
     let mut sets = Vec::new(alloc);
-    for p in 0..size {
-        let mut set = Bits::new(alloc, size)?;
-        add_befores(follows.as_slice(), p, &mut set);
-        add_if(first.has(p), mark, &mut set);
+    for p in 0..positions(r) {
+        let set = turned(alloc, r, follows, first, p, size)?;
         sets.push(set)?;
     }
+    let none = Bits::new(alloc, size)?;
+    sets.push(none)?;
     Ok(sets)
 }
 
-/// For each position those that come directly after it.
-fn plain_follows(alloc: Global, r: &Regex, size: u32) -> Result<Vec<Bits>, NoMemory>
-    requires { position_count (meaning r.now) + 1 ≤ size }
-    ensures { IfOk result (λ sets. AreRows size size (Follow (meaning r.now) 0) sets.items) }
+/// The positions after which `p` comes directly, and the end mark where `p` is a first one.
+fn turned(
+    alloc: Global,
+    r: &Regex,
+    follows: &[Bits],
+    first: &Bits,
+    p: u32,
+    size: u32,
+) -> Result<Bits, NoMemory>
+    requires room { position_count (meaning r.now) + 1 ≡ size }
+    requires follows { AreRows size size (Follow (marked (meaning r.now)) 0) follows.now }
+    requires first { (p : ℕ) → Has first.now p ↔ First (marked (meaning r.now)) 0 p }
+    ensures size { IfOk result (λ set. set.size ≡ size) }
+    ensures has { IfOk result (λ set. (q : ℕ) → Has set q
+        ↔ IsTurned (marked (meaning r.now)) (position_count (meaning r.now)) p q) }
 {
-    let mut sets = Vec::new(alloc);
-    for p in 0..size {
-        let mut set = Bits::new(alloc, size)?;
-        follow(r, 0, p, &mut set);
-        sets.push(set)?;
-    }
-    Ok(sets)
+    let mut set = Bits::new(alloc, size)?;
+    add_befores(follows, p, &mut set);
+    add_if(first.has(p), positions(r), &mut set);
+    Ok(set)
 }
 
 /// Adds the positions after which `p` comes directly.
@@ -139,27 +125,29 @@ fn add_befores(follows: &[Bits], p: u32, to: &mut Bits)
 }
 
 /// The positions with which a word may end, and the end mark for the empty word.
-pub(crate) fn lasts_of(alloc: Global, r: &Regex, size: u32) -> Result<Bits, NoMemory>
-    requires { position_count (meaning r.now) + 1 ≡ size }
+pub(crate) fn lasts_of(
+    alloc: Global,
+    r: &Regex,
+    follows: &[Bits],
+    first: &Bits,
+    size: u32,
+) -> Result<Bits, NoMemory>
+    requires room { position_count (meaning r.now) + 1 ≡ size }
+    requires follows { AreRows size size (Follow (marked (meaning r.now)) 0) follows.now }
+    requires first { (p : ℕ) → Has first.now p ↔ First (marked (meaning r.now)) 0 p }
     ensures size { IfOk result (λ set. set.size ≡ size) }
     ensures has { IfOk result (λ set. (p : ℕ) → Has set p ↔ FirstBackwards (meaning r.now) p) }
 {
-    let mut unused = Bits::new(alloc, size)?;
-    let mut set = Bits::new(alloc, size)?;
-    for p in 0..size {
-        let last = follow(r, 0, p, &mut unused);
-        add_if(last, p, &mut set);
-    }
-    mark_if_empty(r, &mut set);
+    let set = turned(alloc, r, follows, first, positions(r), size)?;
     Ok(set)
 }
 
-/// Adds the end mark where the empty word is in the language.
-fn mark_if_empty(r: &Regex, to: &mut Bits)
-    requires room { position_count (meaning r.now) + 1 ≤ to.old.size }
-    requires fits { to.old.size < 2 ^ 32 }
-    ensures { Adds to.old to.new (λ q.
-        IsTrue (has_empty (meaning r.now)) × (q ≡ position_count (meaning r.now))) }
+/// Adds the number where the condition is true.
+fn add_if(condition: bool, p: u32, to: &mut Bits)
+    requires { p < to.old.size }
+    ensures { Adds to.old to.new (λ q. IsTrue condition × (q ≡ p)) }
 {
-    add_if(nullable(r), positions(r), to);
+    if condition {
+        to.add(p);
+    }
 }

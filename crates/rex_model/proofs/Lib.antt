@@ -11,7 +11,7 @@ mod FollowOfParts
 mod LongestBySets
 mod MeaningExamples
 pub mod Meanings
-mod MeaningsOfParts
+pub mod MeaningsOfParts
 pub mod MeantRules
 mod MovesOfParts
 mod NextPlace
