@@ -1,16 +1,17 @@
 -- Names met line by line.
-use Rattle.std.proofs.Common.{◌≡◌, ℕ, ◌+◌, ◌≤◌, ◌↔◌, IsTrue, Bool, false, List, [], ◌∷◌, ◌++◌, length, take, map, refl, sym, ap, ◌∙◌, subst, Option, Some, None, IsNone, is_some, Contains, arith, length-append, append-nil}
+use Rattle.std.proofs.Common.{◌≡◌, ℕ, zero, suc, ◌+◌, ◌≤◌, ◌⊎◌, inl, inr, ◌↔◌, IsTrue, Bool, false, List, [], ◌∷◌, ◌++◌, length, take, map, refl, sym, ap, ◌∙◌, subst, Option, Some, None, IsNone, is_some, Contains, arith, length-append, append-nil, append_assoc}
 use Rattle.std.specs.List.{slice_get}
 use Rattle.ck_base.specs.Numbered.{met}
-use Rattle.ck_base.proofs.NamesMet.{met_new, none_where_absent}
+use Rattle.ck_base.proofs.NamesMet.{met_new, met-append, none_where_absent}
 use Rattle.section_frame.specs.Declares.{Declared}
 use Rattle.std.proofs.lemmas.List.{length-map}
 use Rattle.spec_text.proofs.Lists.{take_step, take_all}
-use Rattle.spec_text.proofs.Parting.{contains_at}
+use Rattle.std.proofs.lemmas.List.Elements.{Contains-append_cases}
+use Rattle.spec_text.proofs.Parting.{contains_at, some_at}
 use Rattle.section_frame.specs.Passes.{as_seen, judged_by, numbered}
 use Rattle.section_frame.specs.declared.pass.Numbered.{Numbered}
 use Rattle.section_frame.proofs.Passing.{seen_rows}
-use Rattle.section_frame.specs.Words.{IsAgain, Meets, again, fresh, name_before, names_by}
+use Rattle.section_frame.specs.Words.{IsAgain, IsAmong, Meets, again, fresh, name_before, names_by}
 
 -- whether a name is there
 pub is_there : (names : List (List ℕ)) (name : List ℕ) (found : Option ℕ)
@@ -40,6 +41,47 @@ module _ {S : Type 0} (name : S → Option (List ℕ)) where
   pub next_names : (ds : List (Declared S)) (i : ℕ) (d : Declared S) → slice_get ds i ≡ Some d
       → names_by name (take (i + 1) ds) ≡ names_by name (take i ds) ++ name_before (name d.said) []
   next_names ds i d at = ap (names_by name) (take_step ds i d at) ∙ names_by-append (take i ds) (d ∷ [])
+
+  -- names of which none is there before are met as they stand
+  module _ (first : List (List ℕ)) (ds : List (Declared S))
+      (unseen : (i : ℕ) (d : Declared S) → slice_get ds i ≡ Some d → IsAgain name ds i d.said → ⊥)
+      (apart : (i : ℕ) (d : Declared S) → slice_get ds i ≡ Some d → IsAmong name first d.said → ⊥) where
+    with_name : (names : List (List ℕ)) (o : Option (List ℕ)) → ((n : List ℕ) → o ≡ Some n → Contains names n → ⊥)
+        → met names (name_before o []) ≡ names ++ name_before o []
+    with_name names None absent = sym (append-nil names)
+    with_name names (Some n) absent = met_new names n (none_where_absent names n (absent n refl))
+
+    abbrev AsTheyStand : ℕ → Type 0
+    AsTheyStand i = met first (names_by name (take i ds)) ≡ first ++ names_by name (take i ds)
+
+    one_more_stands : (i : ℕ) (d : Declared S) → slice_get ds i ≡ Some d → AsTheyStand i → AsTheyStand (i + 1)
+    one_more_stands i d at so =
+        ap (met first) (next_names ds i d at) ∙ met-append first (names_by name (take i ds)) (name_before (name d.said) [])
+        ∙ ap (λ l. met l (name_before (name d.said) [])) so
+        ∙ with_name (first ++ names_by name (take i ds)) (name d.said)
+        (λ n is there. by n is (Contains-append_cases first (names_by name (take i ds)) n there))
+        ∙ append_assoc first (names_by name (take i ds)) (name_before (name d.said) [])
+        ∙ ap (λ l. first ++ l) (sym (next_names ds i d at))
+      where
+        by : (n : List ℕ) → name d.said ≡ Some n → Contains first n ⊎ Contains (names_by name (take i ds)) n → ⊥
+        by n is (inl there) = apart i d at (record { called = n; is = is; among = there })
+        by n is (inr there) = unseen i d at (record { called = n; is = is; before = there })
+
+    stand_so_far : (i : ℕ) → i ≤ length ds → AsTheyStand i
+    stand_so_far zero less = nothing ds
+      where
+        nothing : (ds : List (Declared S)) → met first (names_by name (take 0 ds)) ≡ first ++ names_by name (take 0 ds)
+        nothing [] = sym (append-nil first)
+        nothing (d ∷ ds) = sym (append-nil first)
+    stand_so_far (suc i) less =
+        let there = some_at ds i (omega (arith, less)) in
+        let next : i + 1 ≡ suc i = omega arith in
+        subst AsTheyStand next (one_more_stands i there.0 there.1 (stand_so_far i (omega (arith, less))))
+
+    pub as_they_stand : met first (names_by name ds) ≡ first ++ names_by name ds
+    as_they_stand =
+        subst (λ l. met first (names_by name l) ≡ first ++ names_by name l) (take_all ds (length ds) refl)
+        (stand_so_far (length ds) (omega arith))
 
   module _ (ds : List (Declared S)) (i : ℕ) (d : Declared S) (old new : List (List ℕ)) (are : old ≡ names_by name (take i ds))
       (at : slice_get ds i ≡ Some d) where

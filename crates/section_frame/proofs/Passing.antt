@@ -1,5 +1,5 @@
 -- What a pass over lines has seen.
-use Rattle.std.proofs.Common.{◌≡◌, get_or, ℕ, zero, suc, ◌+◌, ◌<◌, ◌↔◌, List, [], ◌∷◌, IsTrue, Bool, false, true, length, take, map, Some, None, Option, Result, Ok, Err, IfOk, refl, sym, ap, ◌∙◌, subst, arith}
+use Rattle.std.proofs.Common.{◌≡◌, get_or, ℕ, zero, suc, ◌+◌, ◌<◌, ◌↔◌, List, [], ◌∷◌, IsTrue, Bool, false, true, length, take, map, Some, None, Option, Result, Ok, Err, IfOk, refl, sym, ap, ◌∙◌, subst}
 use Rattle.std.specs.List.{slice_get}
 use Rattle.section_frame.specs.Declares.{Declared, HasAt, Grow}
 use Rattle.spec_text.specs.Least.{Least}

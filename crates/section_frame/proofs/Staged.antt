@@ -24,6 +24,15 @@ module _ {D : Type 0} (s : Judged D) (declared : D) (all : s.Declares declared) 
   line_found kind None line none is = cc
   line_found kind (Some n) line least is = subst (Least (s.Has declared kind)) (cc) least
 
+  -- where no other kind was looked for yet
+  pub twice_first : (twice : Option ℕ) → FirstOfKind s declared Twice twice → (fault : SpecFault) → FirstOf twice None None None fault
+      → IsFirstIn s fault
+  twice_first twice a _ (of_twice line is) =
+      of_kind declared line Twice all (omega arith) (before_twice s declared) (line_found Twice twice line a is)
+  twice_first twice a _ (of_unknown line no_twice is) = cc
+  twice_first twice a _ (of_typing line no_twice no_unknown is) = cc
+  twice_first twice a _ (of_limit line no_twice no_unknown no_typing is) = cc
+
   module _ (twice unknown typing limit : Option ℕ) (a : FirstOfKind s declared Twice twice) (b : FirstOfKind s declared Unknown unknown)
       (c : FirstOfKind s declared Typing typing) (d : FirstOfKind s declared Limit limit) where
     pub first_of_kinds : (fault : SpecFault) → FirstOf twice unknown typing limit fault → IsFirstIn s fault

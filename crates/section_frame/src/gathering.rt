@@ -21,8 +21,23 @@ pub fn gathered<T, N: Naming<T>>(
         names ≡ met [] (names_by N.name (map (judged_by N.seen) list.now))) }
 {
     let mut names = Names::new(alloc);
-    for line in list {
-        meet(&mut names, naming.name_of(&line.says))?;
-    }
+    gather(&mut names, list, naming)?;
     Ok(names)
+}
+
+/// Puts the names by which lines declare something of a sort behind those that are there, each
+/// once.
+pub fn gather<T, N: Naming<T>>(
+    names: &mut Names,
+    list: &[Numbered<T>],
+    naming: &N,
+) -> Result<(), NoMemory>
+    requires { length names.old + length list.now + 1 < 2 ^ 32 }
+    ensures { IfOk result (λ done.
+        names.new ≡ met names.old (names_by N.name (map (judged_by N.seen) list.now))) }
+{
+    for line in list {
+        meet(names, naming.name_of(&line.says))?;
+    }
+    Ok(())
 }

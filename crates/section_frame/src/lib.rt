@@ -33,7 +33,7 @@ pub use among::{Among, AnyOf, WordSet, Words};
 pub use both::Both;
 pub use counted::{Adding, Counted, CountedNames};
 pub use doubled::HasTwo;
-pub use gathering::gathered;
+pub use gathering::{gather, gathered};
 pub use kinds::{stages, with_head};
 pub use missing::{Missing, Uses};
 pub use part::{after_sign, after_word, is_sign, is_word, name_of, names_of, number_of, text_of};

@@ -2,7 +2,6 @@
 use Rattle.std.proofs.Common.{◌++◌, ◌∷◌, [], length, map, ap, ◌∙◌, subst, sym, arith}
 use Rattle.std.proofs.lemmas.List.{map-append, length-map}
 use Rattle.spec_text.specs.Seen.{seen}
-use Rattle.section_frame.specs.Parts.{comma}
 use Rattle.section_frame.proofs.PartLists.{ListedSoFar, listed_first, listed_more, listed_none, listed_none_first, listed_end}
 use Rattle.section_frame.proofs.reading.listed.Goals as goal
 
