@@ -1,9 +1,10 @@
 -- The definitions, tried where the nearest wrong reading differs.
-use Rattle.std.proofs.Common.{◌≡◌, ℕ, true, false, List, [], ◌∷◌, Some, None, refl, sym, codes, arith}
+use Rattle.std.proofs.Common.{◌≡◌, ℕ, zero, suc, ◌<◌, true, false, List, [], ◌∷◌, get_or, Some, None, Contains, refl, codes, arith}
 use Rattle.ck_base.specs.declared.fault.Kind.TheVariants.{Twice, Unknown}
 use Rattle.section_frame.specs.Declares.{Declared}
+use Rattle.section_frame.specs.Words.{IsMissing, sum_by}
 use Rattle.front_spec.specs.RexShapes.{SaidRule, Saying, state, rule}
-use Rattle.front_spec.specs.RexFaults.{all_states, all_positions, NamesState, active, next, RexFault, second_state, no_state}
+use Rattle.front_spec.specs.RexFaults.{all_states, positions_of, RexFault, state_is_std, no_active_state, no_go_state}
 use Rattle.front_spec.specs.RexRules.{active_in}
 use Rattle.rex_model.specs.Language.{bytes, star, sequence}
 use Rattle.spec_text.specs.Lexemes.{Lexeme, text, sign}
@@ -33,7 +34,7 @@ row_of_two rest = record {
 
 -- STD is there without a line, so a line of it is of kind twice, also the first one
 pub std_again : (ds : List (Declared Saying)) → RexFault ds Twice 0 (state (codes "STD"))
-std_again ds = second_state 0 (codes "STD") (0, omega arith, refl)
+std_again ds = state_is_std 0 _ (record { called = codes "STD"; is = refl; among = (0, omega arith, refl) })
 
 abbrev only_a : SaidRule
 only_a = record { states = None; body = bytes (codes "a"); context = None; token = Some (codes "A"); next = Some (codes "X") }
@@ -45,14 +46,19 @@ with_state = record { number = 2; said = rule only_a } ∷ record { number = 3; 
 pub declared_later : RexFault with_state Unknown 0 (rule only_a) → ⊥
 declared_later fault = by (rule only_a) refl fault
   where
-    named : (name : List ℕ) → NamesState only_a name → name ≡ codes "X"
-    named name (active names is among) = cc
-    named name (next is) = (let same : codes "X" ≡ name = cc in sym same)
+    there : IsMissing (all_states with_state) (codes "X" ∷ []) → ⊥
+    there missing = missing.none (of_one missing.used.0 missing.used.1 missing.used.2)
+      where
+        of_one : (i : ℕ) → i < 1 → get_or (codes "X" ∷ []) i missing.name ≡ missing.name → Contains (all_states with_state) missing.name
+        of_one zero less same = (1, omega arith, same)
+        of_one (suc i) less same = absurd (omega (arith, less))
 
     by : (said : Saying) → said ≡ rule only_a → RexFault with_state Unknown 0 said → ⊥
-    by _ same (no_state _ said name names absent) =
-        let its : said ≡ only_a = cc in
-        absent (rw (named name (rw its at names)) (1, omega arith, refl))
+    by _ same (no_active_state _ said missing) = none (rw same at missing)
+      where
+        none : IsMissing (all_states with_state) [] → ⊥
+        none missing = let less = missing.used.1 in omega (arith, less)
+    by _ same (no_go_state _ said missing) = there (rw same at missing)
 
 -- a rule that names no state is active in STD alone, and not in all of them
 pub std_alone : (active_in (all_states with_state) None 0 ≡ true) × (active_in (all_states with_state) None 1 ≡ false)
@@ -64,5 +70,5 @@ pub in_x_alone : (active_in (all_states with_state) (Some (codes "X" ∷ [])) 0 
 in_x_alone = (refl, refl)
 
 -- the end mark is a position too
-pub end_mark_counts : all_positions with_state ≡ 2
+pub end_mark_counts : sum_by positions_of with_state ≡ 2
 end_mark_counts = refl

@@ -1,22 +1,25 @@
 -- The scan rules that are made are those that the lines declare.
-use Rattle.std.proofs.Common.{◌≡◌, ℕ, zero, suc, ◌+◌, ◌≤◌, ◌⊎◌, inl, inr, Bool, true, false, ◌||◌, ◌==◌, List, [], ◌∷◌, ◌++◌, length, take, map, refl, sym, ap, ◌∙◌, Option, Some, None, arith, rules}
+use Rattle.std.proofs.Common.{◌≡◌, ℕ, ◌+◌, ◌<◌, ◌≤◌, ◌⊎◌, inl, inr, Bool, true, false, ◌||◌, ◌==◌, List, [], ◌∷◌, ◌++◌, length, take, map, get_or, refl, sym, ap, ◌∙◌, Option, Some, arith, rules}
 use Rattle.std.specs.List.{slice_get}
-use Rattle.std.proofs.lemmas.List.{map-append}
+use Rattle.std.proofs.lemmas.List.{map-append, length-map}
 use Rattle.std.proofs.lemmas.List.Folds.{list_any-append}
 use Rattle.ck_base.specs.BitSet.{BitSet, Has}
-use Rattle.ck_base.specs.Numbered.{number_of, met}
-use Rattle.ck_base.proofs.NamesMet.{met-append, length-met}
+use Rattle.ck_base.specs.Numbered.{number_of}
 use Rattle.rex_model.specs.Language.{Re}
 use Rattle.rex_model.specs.Rules.{Rule}
 use Rattle.rex_model.specs.RuleMeaning.{rule_of}
 use Rattle.rex_model.specs.declared.rules.ScanRule.{ScanRule}
 use Rattle.section_frame.specs.Declares.{Declared}
-use Rattle.spec_text.proofs.Lists.{take_step, take_all}
+use Rattle.spec_text.proofs.Lists.{take_step, take_all, get_at, map_get}
+use Rattle.section_frame.specs.Passes.{judged_by}
+use Rattle.section_frame.specs.declared.pass.Numbered.{Numbered}
 use Rattle.front_spec.specs.RexShapes.{SaidRule, Saying, state, rule}
-use Rattle.front_spec.specs.RexRules.{add_rule, rules_in, add_token, tokens_in, number_in, is_number, active_in, rule_by}
+use Rattle.front_spec.specs.RexRules.{add_rule, rules_in, number_in, is_number, active_in, rule_by}
+use Rattle.front_spec.specs.Seen.{saying}
 use Rattle.front_spec.specs.Steps.{AddsActive}
+use Rattle.front_spec.specs.declared.declaration.Says.{Says}
 
--- rules and tokens of one line more
+-- rules of one line more
 rules_at_end : (ds : List (Declared Saying)) (d : Declared Saying) → rules_in (ds ++ d ∷ []) ≡ rules_in ds ++ add_rule d.said []
 rules_at_end [] d = refl
 rules_at_end (e ∷ ds) d = by e.said (rules_at_end ds d)
@@ -26,54 +29,17 @@ rules_at_end (e ∷ ds) d = by e.said (rules_at_end ds d)
     by (state name) same = same
     by (rule said) same = ap (λ l. said ∷ l) same
 
-tokens_together : (first second : List SaidRule) → tokens_in (first ++ second) ≡ tokens_in first ++ tokens_in second
-tokens_together [] second = refl
-tokens_together (said ∷ first) second = by said.token (tokens_together first second)
-  where
-    by : (token : Option (List ℕ)) → tokens_in (first ++ second) ≡ tokens_in first ++ tokens_in second
-        → add_token token (tokens_in (first ++ second)) ≡ add_token token (tokens_in first) ++ tokens_in second
-    by None same = same
-    by (Some name) same = ap (λ l. name ∷ l) same
-
 next_rules : (ds : List (Declared Saying)) (i : ℕ) (d : Declared Saying) → slice_get ds i ≡ Some d
     → rules_in (take (i + 1) ds) ≡ rules_in (take i ds) ++ add_rule d.said []
 next_rules ds i d at = ap rules_in (take_step ds i d at) ∙ rules_at_end (take i ds) d
 
-few_rules : (ds : List (Declared Saying)) (i : ℕ) → length (tokens_in (rules_in (take i ds))) ≤ i
-few_rules ds zero = omega arith
-few_rules [] (suc i) = omega arith
-few_rules (d ∷ ds) (suc i) = by d.said (few_rules ds i)
-  where
-    add : (token : Option (List ℕ)) (names : List (List ℕ)) → length (add_token token names) ≤ length names + 1
-    add None names = omega arith
-    add (Some name) names = omega arith
+-- the line at a place, and the end of the lines
+pub declared_at : (list : List (Numbered Says)) (i : ℕ) (p : Numbered Says) → i < length list
+    → slice_get (map (judged_by saying) list) i ≡ Some (judged_by saying (get_or list i p))
+declared_at list i p less = map_get (judged_by saying) list i (get_or list i p) (get_at list i p less)
 
-    by : (said : Saying) → length (tokens_in (rules_in (take i ds))) ≤ i → length (tokens_in (add_rule said (rules_in (take i ds)))) ≤ suc i
-    by (state name) less = omega (arith, less)
-    by (rule said) less = let more = add said.token (tokens_in (rules_in (take i ds))) in omega (arith, less, more)
-
--- the names of tokens so far
-pub record TokensSoFar (ds : List (Declared Saying)) (i : ℕ) (names : List (List ℕ)) : Type 0 where
-  pub are : names ≡ met [] (tokens_in (rules_in (take i ds)))
-  pub few : length names ≤ i
-
-tokens_few : (ds : List (Declared Saying)) (i : ℕ) (names : List (List ℕ)) → names ≡ met [] (tokens_in (rules_in (take i ds))) → length names ≤ i
-tokens_few ds i names are =
-    let long = length-met [] (tokens_in (rules_in (take i ds))) in
-    let less = few_rules ds i in let same = ap length are in omega (arith, long, less, same)
-
-pub one_token : (ds : List (Declared Saying)) (i : ℕ) (old new : List (List ℕ)) (d : Declared Saying) → slice_get ds i ≡ Some d
-    → TokensSoFar ds i old → new ≡ met old (tokens_in (add_rule d.said [])) → TokensSoFar ds (i + 1) new
-one_token ds i old new d at so are =
-    let all : new ≡ met [] (tokens_in (rules_in (take (i + 1) ds))) =
-    are ∙ ap (λ l. met l (tokens_in (add_rule d.said []))) so.are
-    ∙ sym (met-append [] (tokens_in (rules_in (take i ds))) (tokens_in (add_rule d.said [])))
-    ∙ ap (met []) (sym (tokens_together (rules_in (take i ds)) (add_rule d.said [])) ∙ ap tokens_in (sym (next_rules ds i d at))) in
-    record { are = all; few = tokens_few ds (i + 1) new all }
-
-pub all_tokens : (ds : List (Declared Saying)) (i : ℕ) (names : List (List ℕ)) → i ≡ length ds → TokensSoFar ds i names
-    → names ≡ met [] (tokens_in (rules_in ds))
-all_tokens ds i names end so = so.are ∙ ap (λ l. met [] (tokens_in (rules_in l))) (take_all ds i end)
+pub at_end : (i : ℕ) (list : List (Numbered Says)) → i ≤ length list → length list ≤ i → i ≡ length (map (judged_by saying) list)
+at_end i list less more = omega (arith, less, more, length-map list (judged_by saying))
 
 -- the rules so far
 module _ (states tokens : List (List ℕ)) (ds : List (Declared Saying)) where

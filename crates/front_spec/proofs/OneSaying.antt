@@ -1,12 +1,6 @@
 -- A line of REX declares one thing at most.
-use Rattle.std.proofs.Common.{◌≡◌, ℕ, List, [], ◌∷◌, refl, sym, ap, ◌∙◌, None, codes, arith}
-use Rattle.ck_base.specs.declared.fault.Kind.TheVariants.{Syntax}
+use Rattle.std.proofs.Common.{◌≡◌, ℕ, List, [], ◌∷◌, refl, sym, ap, ◌∙◌, codes, arith}
 use Rattle.spec_text.specs.Lexemes.{Lexeme, word}
-use Rattle.spec_text.specs.Lines.{Line, said_by}
-use Rattle.spec_text.specs.Spans.{IsLineOf}
-use Rattle.section_frame.specs.Declares.{Declared, Says, kind_of}
-use Rattle.spec_text.specs.declared.line.SpecLine.{SpecLine}
-use Rattle.front_spec.specs.RexFaults.{rex}
 use Rattle.front_spec.specs.RexShapes.{SaidRule, StateLine, RuleLine, Saying, state, rule, RexShape, a_state, a_rule}
 use Rattle.front_spec.proofs.OneRule.{one_shape}
 
@@ -35,12 +29,3 @@ neither_shape tokens no_state no_rule said is = by said is
     by : (said : Saying) → RexShape tokens said → ⊥
     by _ (a_state _ name its) = no_state name its
     by _ (a_rule _ said its) = no_rule said its
-
-pub shapeless_line : (file : List ℕ) (line : SpecLine) (is : Line) → IsLineOf file line is → line.bad ≡ None → {tokens : List Lexeme}
-    → tokens ≡ said_by is → ((said : Saying) → RexShape tokens said → ⊥)
-    → (line.number ≡ is.number) × (Syntax ≡ kind_of is.bad) × ((d : Declared Saying) → Says rex.Shape is d → ⊥)
-shapeless_line file line is it good seen none = (
-  ap (λ l. l.number) it.same,
-  (let same : is.bad ≡ None = sym (ap (λ l. l.bad) it.same) ∙ good in rw same refl),
-  λ d says. none d.said (rw seen says.shape),
-)

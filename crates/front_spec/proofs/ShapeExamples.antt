@@ -10,7 +10,7 @@ use Rattle.section_frame.specs.Parts.{Or, Seen, absent, present, last, last_one,
 use Rattle.section_frame.proofs.Readings.{not_behind}
 use Rattle.front_spec.specs.Regexes.{Written, is_dot_byte, a_string, plain, meaning_of, IsRegex, EndsRegex}
 use Rattle.front_spec.specs.RexShapes.{Body, Produces, Skips, with_token, without_token, SaidRule, RuleLine, Saying, state, rule, RexShape}
-use Rattle.front_spec.specs.RexFaults.{RexFault, second_state, end_token, no_state, too_many_states, too_many_positions, all_positions, rex}
+use Rattle.front_spec.specs.RexFaults.{RexFault, second_state, state_is_std, token_is_end, no_active_state, no_go_state, too_many_states, too_many_positions, rex}
 use Rattle.front_spec.specs.RexRules.{rules_by}
 use Rattle.front_spec.proofs.OneRegex.{one_regex}
 use Rattle.front_spec.proofs.OneSaying.{state_or_rule, neither_shape}
@@ -107,25 +107,33 @@ abbrev state_x : ℕ → Declared Saying
 state_x line = record { number = line; said = state (codes "X") }
 
 pub unused_state : (line : ℕ) (kind : Kind) → RexFault (state_x line ∷ []) kind 0 (state (codes "X")) → ⊥
-unused_state line kind fault = by kind (state (codes "X")) refl fault
+unused_state line kind fault = by kind 0 (state (codes "X")) refl refl fault
   where
-    no_std : (name : List ℕ) → name ≡ codes "X" → Contains (codes "STD" ∷ []) name → ⊥
+    no_std : (name : List ℕ) → codes "X" ≡ name → Contains (codes "STD" ∷ []) name → ⊥
     no_std name is there = at there.0 there.1 there.2
       where
         at : (i : ℕ) → i < 1 → get_or (codes "STD" ∷ []) i name ≡ name → ⊥
-        at zero less same = let long = ap length (same ∙ is) in omega (arith, long)
+        at zero less same = let long = ap length (same ∙ sym is) in omega (arith, long)
         at (suc i) less same = omega (arith, less)
 
-    by : (kind : Kind) (said : Saying) → said ≡ state (codes "X") → RexFault (state_x line ∷ []) kind 0 said → ⊥
-    by _ _ is (second_state _ name there) = no_std name (let same : name ≡ codes "X" = cc in same) there
-    by _ _ is (end_token _ said end) = cc
-    by _ _ is (no_state _ said name names lacking) = cc
-    by _ _ is (too_many_states _ said more) = omega (arith, more)
-    by _ _ is (too_many_positions _ said more) = let none : all_positions (state_x line ∷ []) ≡ 0 = refl in omega (arith, more, none)
+    by : (kind : Kind) (i : ℕ) (said : Saying) → i ≡ 0 → said ≡ state (codes "X") → RexFault (state_x line ∷ []) kind i said → ⊥
+    by _ _ _ first is (second_state i said again) =
+        let there = rw first at again.before in let less : there.0 < 0 = there.1 in omega (arith, less)
+    by _ _ _ first is (state_is_std i said among) =
+        let named = rw is at among.is in no_std among.called (let same : codes "X" ≡ among.called = cc in same) among.among
+    by _ _ _ first is (token_is_end i said among) = let named = rw is at among.is in cc
+    by _ _ _ first is (no_active_state i said missing) =
+        let used = rw is at missing.used in let less : used.0 < 0 = used.1 in omega (arith, less)
+    by _ _ _ first is (no_go_state i said missing) =
+        let used = rw is at missing.used in let less : used.0 < 0 = used.1 in omega (arith, less)
+    by _ _ _ first is (too_many_states i said past) =
+        let more = rw first at past in let one : 63 < 1 = more in omega (arith, one)
+    by _ _ _ first is (too_many_positions i said past) =
+        let more = rw first at past in let none : 4096 < 0 = more in omega (arith, none)
 
 pub second_of_two : HasFault rex (state_x 2 ∷ state_x 3 ∷ []) Twice 3 × (HasFault rex (state_x 3 ∷ []) Twice 3 → ⊥)
 second_of_two = (
-  record { place = 1; declared = state_x 3; is = refl; number = refl; fault = second_state 1 (codes "X") (1, omega arith, refl) },
+  record { place = 1; declared = state_x 3; is = refl; number = refl; fault = second_state 1 _ (record { called = codes "X"; is = refl; before = (0, omega arith, refl) }) },
   λ has. alone has.place has.declared has.is has.fault,
 )
   where

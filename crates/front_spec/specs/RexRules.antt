@@ -4,8 +4,9 @@ use Rattle.std.specs.List.{list_any}
 use Rattle.ck_base.specs.Numbered.{number_of, met}
 use Rattle.rex_model.specs.Rules.{Rule, Rules}
 use Rattle.section_frame.specs.Declares.{Declared}
+use Rattle.section_frame.specs.Words.{names_by}
 use Rattle.front_spec.specs.RexShapes.{SaidRule, Saying, state, rule}
-use Rattle.front_spec.specs.RexFaults.{all_states}
+use Rattle.front_spec.specs.RexFaults.{all_states, token_name}
 
 -- the rules in the order of their lines
 abbrev pub add_rule : Saying → List SaidRule → List SaidRule
@@ -16,16 +17,6 @@ add_rule (rule said) rules = said ∷ rules
 abbrev pub rules_in : List (Declared Saying) → List SaidRule
 rules_in [] = []
 rules_in (d ∷ ds) = add_rule d.said (rules_in ds)
-
--- the names of their tokens
-abbrev pub add_token : Option (List ℕ) → List (List ℕ) → List (List ℕ)
-add_token None names = names
-add_token (Some name) names = name ∷ names
-
--- the names of tokens that rules give, each once, in their order
-abbrev pub tokens_in : List SaidRule → List (List ℕ)
-tokens_in [] = []
-tokens_in (said ∷ rules) = add_token said.token (tokens_in rules)
 
 -- the number of a name that may be missing
 abbrev pub number_in : List (List ℕ) → Option (List ℕ) → Option ℕ
@@ -56,6 +47,6 @@ rule_by states tokens said = record {
 abbrev pub rules_by : List (Declared Saying) → Rules
 rules_by ds = record {
   states = all_states ds;
-  tokens = met [] (tokens_in (rules_in ds));
-  list = map (rule_by (all_states ds) (met [] (tokens_in (rules_in ds)))) (rules_in ds);
+  tokens = met [] (names_by token_name ds);
+  list = map (rule_by (all_states ds) (met [] (names_by token_name ds))) (rules_in ds);
 }

@@ -5,7 +5,6 @@ use Rattle.std.specs.Borrow.{Bor}
 use Rattle.rex_model.specs.Language.{Re}
 use Rattle.rex_model.specs.Meaning.{meaning}
 use Rattle.rex_model.specs.declared.regex.Regex.{Regex}
-use Rattle.section_frame.specs.Declares.{Declared}
 use Rattle.spec_text.specs.Seen.{bytes_of, name_in}
 use Rattle.front_spec.specs.Regexes.{Written, Sign, a_star, a_plus, a_question}
 use Rattle.front_spec.specs.RexShapes.{SaidRule, Saying, state, rule}
@@ -15,7 +14,6 @@ use Rattle.front_spec.specs.declared.regexes.Repeat.TheVariants.{Star, Plus, Opt
 use Rattle.front_spec.specs.declared.rule.DeclaredRule.{DeclaredRule}
 use Rattle.front_spec.specs.declared.declaration.Says.{Says}
 use Rattle.front_spec.specs.declared.declaration.Says.TheVariants.{State, Rule}
-use Rattle.front_spec.specs.declared.declaration.Declaration.{Declaration}
 
 -- the pure form of an expression that was read
 abbrev pub written_of : Read → Written
@@ -51,7 +49,3 @@ said_rule declared = record {
 abbrev pub saying : Says → Saying
 saying (State name) = state name.now
 saying (Rule declared) = rule (said_rule declared)
-
--- the pure form of a declaration
-abbrev pub declared_by : Declaration → Declared Saying
-declared_by d = record { number = d.number; said = saying d.says }

@@ -1,23 +1,28 @@
 // The section REX read: its rules and states, or its first fault.
 ghost use Rattle.std.specs.Prelude.{◌≡◌, ℕ, ◌+◌, ◌^◌, ◌<◌, ◌≤◌, List, Some, true, length, map, slice_get, IfOk, IfErr};
+ghost use Rattle.ck_base.specs.declared.fault.Kind.TheVariants.{Twice as twice};
 ghost use Rattle.rex_model.specs.Positions.{position_count};
 ghost use Rattle.rex_model.specs.RuleMeaning.{rules_of};
 ghost use Rattle.rex_model.specs.Rules.{Rule};
 ghost use Rattle.rex_model.specs.Sets.{marked_rules};
-ghost use Rattle.section_frame.specs.Declares.{DeclareAll, Grow, IsFirstFault, judged};
+ghost use Rattle.section_frame.specs.Declares.{DeclareAll, Grow, HasAt, judged};
 ghost use Rattle.section_frame.specs.FirstFault.{Accepts};
+ghost use Rattle.section_frame.specs.Passes.{judged_by, numbered};
+ghost use Rattle.section_frame.specs.Stages.{IsFirstIn};
 ghost use Rattle.spec_text.specs.Lines.{Line};
 ghost use Rattle.spec_text.specs.Promise.{AreSectionsOf};
 ghost use Rattle.front_spec.specs.Promise.{DeclaresRules, IsRexFault};
-ghost use Rattle.front_spec.specs.RexFaults.{all_states, rex};
-ghost use Rattle.front_spec.specs.Seen.{declared_by};
+ghost use Rattle.front_spec.specs.RexFaults.{RexFault, all_states, rex};
+ghost use Rattle.front_spec.specs.RexShapes.{RexShape};
+ghost use Rattle.front_spec.specs.Seen.{saying};
 
-use crate::declaration::{Declaration, declarations};
-use crate::fault::{first_limit, first_twice, first_unknown};
-use crate::rules::{scan_rules, token_names};
+use crate::declaration::{Declarations, Says};
+use crate::fault::{ByState, ByToken, limit_in, twice_in, unknown_in};
+use crate::rules::scan_rules;
 use bumpalo::Bump;
-use ck_base::{Kind, Names, SpecFault};
+use ck_base::{Names, NoMemory, SpecFault};
 use rex_model::ScanRules;
+use section_frame::{Numbered, declared_lines, gather, gathered, stages};
 use spec_text::{Sections, rex_of};
 use std::alloc::Global;
 
@@ -51,10 +56,11 @@ pub fn read_rex<'a>(
 {
     let section = rex_of(s);
     let texts = Bump::new(alloc);
-    let list = declarations(alloc, arena, &texts, spec, section.lines)?;
-    let states = states_of(alloc, list.as_slice())?;
-    let tokens = token_names(alloc, list.as_slice())?;
-    let rules = scan_rules(alloc, arena, &states, &tokens, list.as_slice())?;
+    let list = declared_lines(alloc, &texts, spec, section.lines, &Declarations { arena })?;
+    let list = list.as_slice();
+    let states = declared_states(alloc, list)?;
+    let tokens = gathered(alloc, list, &ByToken)?;
+    let rules = scan_rules(alloc, arena, &states, &tokens, list)?;
     Ok(ScanRules {
         states,
         tokens,
@@ -62,36 +68,37 @@ pub fn read_rex<'a>(
     })
 }
 
-/// The names of the start states, or the first fault among lines that all have a shape.
-fn states_of(alloc: Global, list: &[Declaration<'_, '_>]) -> Result<Names, SpecFault>
+/// The names of the start states, or the first fault where each line has a shape.
+fn declared_states(alloc: Global, list: &[Numbered<Says<'_, '_>>]) -> Result<Names, SpecFault>
     requires few { length list.now + 2 < 2 ^ 32 }
-    requires grow { Grow (map declared_by list.now) }
-    ensures states { IfOk result (λ names. names ≡ all_states (map declared_by list.now)) }
+    requires grow { Grow (map numbered list.now) }
+    ensures states { IfOk result (λ names.
+        names ≡ all_states (map (judged_by saying) list.now)) }
     ensures accepted { IfOk result (λ names. (lines : List Line)
-        → DeclareAll rex.Shape lines (map declared_by list.now)
-        → Accepts (judged rex lines) (map declared_by list.now)) }
+        → DeclareAll RexShape lines (map (judged_by saying) list.now)
+        → Accepts (judged rex lines) (map (judged_by saying) list.now)) }
     ensures fault { IfErr result (λ fault. (lines : List Line)
-        → DeclareAll rex.Shape lines (map declared_by list.now) → IsFirstFault rex lines fault) }
+        → DeclareAll RexShape lines (map (judged_by saying) list.now)
+        → IsFirstIn (judged rex lines) fault) }
+{
+    let twice = twice_in(alloc, list)?;
+    stages(twice, None, None, None)?;
+    let states = states_of(alloc, list)?;
+    let unknown = unknown_in(&states, list)?;
+    let limit = limit_in(list)?;
+    stages(None, unknown, None, limit)?;
+    Ok(states)
+}
+
+/// The names of the start states, where none is there twice.
+fn states_of(alloc: Global, list: &[Numbered<Says<'_, '_>>]) -> Result<Names, NoMemory>
+    requires few { length list.now + 2 < 2 ^ 32 }
+    requires apart { let ds = map (judged_by saying) list.now in
+        (line : ℕ) → HasAt ds (RexFault ds twice) line → ⊥ }
+    ensures { IfOk result (λ names. names ≡ all_states (map (judged_by saying) list.now)) }
 {
     let mut names = Names::new(alloc);
     names.intern(b"STD")?;
-    if let Some(line) = first_twice(&mut names, list)? {
-        return Err(SpecFault::Bad {
-            line,
-            kind: Kind::Twice,
-        });
-    }
-    if let Some(line) = first_unknown(&names, list) {
-        return Err(SpecFault::Bad {
-            line,
-            kind: Kind::Unknown,
-        });
-    }
-    if let Some(line) = first_limit(list) {
-        return Err(SpecFault::Bad {
-            line,
-            kind: Kind::Limit,
-        });
-    }
+    gather(&mut names, list, &ByState)?;
     Ok(names)
 }

@@ -1,55 +1,19 @@
 // Declared rules as scanner rules over numbered tokens and states.
 ghost use Rattle.std.specs.Prelude.{◌≡◌, ℕ, ◌+◌, ◌^◌, ◌<◌, List, [], ◌∷◌, ◌++◌, Some, length, map, IfOk};
-ghost use Rattle.ck_base.specs.Numbered.{met};
 ghost use Rattle.rex_model.specs.RuleMeaning.{contains, context_of, rule_of};
+ghost use Rattle.section_frame.specs.Passes.{judged_by};
 ghost use Rattle.spec_text.specs.Seen.{bytes_of, name_in};
-ghost use Rattle.front_spec.specs.RexRules.{active_in, add_rule, add_token, number_in, rule_by, rules_in, tokens_in};
-ghost use Rattle.front_spec.specs.Seen.{declared_by, names_in, regex_in, said_rule, saying};
+ghost use Rattle.front_spec.specs.RexRules.{active_in, add_rule, number_in, rule_by, rules_in};
+ghost use Rattle.front_spec.specs.Seen.{names_in, regex_in, said_rule, saying};
 ghost use Rattle.front_spec.specs.Steps.{AddsActive};
 
-use crate::declaration::{Declaration, Says};
+use crate::declaration::Says;
 use crate::rule::DeclaredRule;
 use bumpalo::Bump;
 use ck_base::{Bits, Names, NoMemory};
 use rex_model::{Regex, ScanRule};
+use section_frame::Numbered;
 use std::alloc::Global;
-
-/// The names of the tokens that the lines declare, in the order in which they are first met.
-pub(crate) fn token_names(alloc: Global, list: &[Declaration<'_, '_>]) -> Result<Names, NoMemory>
-    requires { length list.now + 2 < 2 ^ 32 }
-    ensures { IfOk result (λ names.
-        names ≡ met [] (tokens_in (rules_in (map declared_by list.now)))) }
-{
-    let mut names = Names::new(alloc);
-    for item in list {
-        add_token(&mut names, &item.says)?;
-    }
-    Ok(names)
-}
-
-/// Puts the token of the line among the names.
-fn add_token(names: &mut Names, says: &Says<'_, '_>) -> Result<(), NoMemory>
-    requires { length names.old + 1 < 2 ^ 32 }
-    ensures { IfOk result (λ done.
-        names.new ≡ met names.old (tokens_in (add_rule (saying says.now) []))) }
-{
-    match says {
-        Says::State(_) => Ok(()),
-        Says::Rule(rule) => add_name(names, rule.token),
-    }
-}
-
-/// Puts the name among the names, where there is one.
-fn add_name(names: &mut Names, name: Option<&[u8]>) -> Result<(), NoMemory>
-    requires { length names.old + 1 < 2 ^ 32 }
-    ensures { IfOk result (λ done. names.new ≡ met names.old (add_token (name_in name.entry) [])) }
-{
-    let Some(name) = name else {
-        return Ok(());
-    };
-    names.intern(name)?;
-    Ok(())
-}
 
 /// The scan rules that the lines declare.
 pub(crate) fn scan_rules<'a>(
@@ -57,11 +21,11 @@ pub(crate) fn scan_rules<'a>(
     arena: &'a Bump<Global>,
     states: &Names,
     tokens: &Names,
-    list: &[Declaration<'a, '_>],
+    list: &[Numbered<Says<'a, '_>>],
 ) -> Result<Vec<ScanRule<'a>>, NoMemory>
     requires { 0 < length states.now }
     ensures { IfOk result (λ rules. map rule_of rules.items
-        ≡ map (rule_by states.now tokens.now) (rules_in (map declared_by list.now))) }
+        ≡ map (rule_by states.now tokens.now) (rules_in (map (judged_by saying) list.now))) }
 {
     let mut rules = Vec::new(alloc);
     for item in list {

@@ -1,7 +1,7 @@
 -- A state's line, a rule's line, or neither.
 use Rattle.front_spec.specs.RexShapes.{a_state, a_rule}
 use Rattle.front_spec.proofs.OneSaying.{neither_shape}
-use Rattle.front_spec.proofs.declaration.says_of.Goals as goal
+use Rattle.front_spec.proofs.declaration.DeclarationsShapesSays.saying_of.Goals as goal
 
 pub returns-in-Some : goal.returns-in-Some
 returns-in-Some c = a_state _ _ c.in-Some.ensures
