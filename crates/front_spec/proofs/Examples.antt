@@ -1,5 +1,5 @@
 -- The definitions, tried where the nearest wrong reading differs.
-use Rattle.std.proofs.Common.{◌≡◌, ℕ, zero, suc, ◌<◌, true, false, List, [], ◌∷◌, get_or, Some, None, Contains, refl, codes, arith}
+use Rattle.std.proofs.Common.{◌≡◌, ℕ, zero, suc, ◌+◌, ◌<◌, ◌≤◌, max, subst, sym, ap, true, false, List, [], ◌∷◌, get_or, Some, None, Contains, refl, codes, arith}
 use Rattle.ck_base.specs.declared.fault.Kind.TheVariants.{Twice, Unknown}
 use Rattle.section_frame.specs.Declares.{Declared}
 use Rattle.section_frame.specs.Words.{IsMissing, sum_by}
@@ -8,29 +8,58 @@ use Rattle.front_spec.specs.RexFaults.{all_states, positions_of, RexFault, state
 use Rattle.front_spec.specs.RexRules.{active_in}
 use Rattle.rex_model.specs.Language.{bytes, star, sequence}
 use Rattle.spec_text.specs.Lexemes.{Lexeme, text, sign}
-use Rattle.section_frame.specs.Parts.{last_one, one_more, last}
-use Rattle.front_spec.specs.Regexes.{a_string, a_star, plain, signed, RegexOver, AtomIn}
+use Rattle.front_spec.specs.Regexes.{Written, a_string, a_star, with_sign, row_of, choice_of, a_leaf, Piece, without_sign, before_sign, last_piece, piece_before, Rows, last_row, IsRegex}
 
 -- "a" "b"* has a nesting of 3
-pub row_of_two : (rest : List Lexeme) → RegexOver (AtomIn 0) (text (codes "a") ∷ text (codes "b") ∷ sign (codes "*") ∷ rest)
+abbrev a_and_bs : List Written
+a_and_bs = record { re = bytes (codes "a"); nesting = 1 } ∷ record { re = star (bytes (codes "b")); nesting = 2 } ∷ []
+
+pub row_of_two : (rest : List Lexeme) → IsRegex (text (codes "a") ∷ text (codes "b") ∷ sign (codes "*") ∷ rest)
     (record { re = sequence (bytes (codes "a")) (sequence (star (bytes (codes "b"))) (bytes [])); nesting = 3 }) rest
 row_of_two rest = record {
-  is = record {
-    v = record { re = sequence (bytes (codes "a")) (sequence (star (bytes (codes "b"))) (bytes [])); nesting = 3 } ∷ [];
-    is = last _ rest _ (record {
-      v = record { re = bytes (codes "a"); nesting = 1 } ∷ record { re = star (bytes (codes "b")); nesting = 2 } ∷ [];
-      is = one_more _ (text (codes "b") ∷ sign (codes "*") ∷ rest) rest _ _
-          (record { is = plain _ _ _ (a_string (text (codes "b") ∷ sign (codes "*") ∷ rest) (codes "a")); within = omega arith })
-          (last_one _ rest _ (record {
-            is = signed a_star _ (sign (codes "*") ∷ rest) rest (record { re = bytes (codes "b"); nesting = 1 }) (plain _ _ _ (a_string (sign (codes "*") ∷ rest) (codes "b"))) refl;
-            within = omega arith;
-          }));
-      said = refl;
-    });
-    said = refl;
-  };
+  rows = row_of a_and_bs ∷ [];
+  are = last_row _ rest a_and_bs
+      (piece_before _ (text (codes "b") ∷ sign (codes "*") ∷ rest) rest _ _
+      (without_sign _ _ _ (a_leaf _ _ _ (a_string (text (codes "b") ∷ sign (codes "*") ∷ rest) (codes "a"))))
+      (last_piece _ rest _ (before_sign a_star _ (sign (codes "*") ∷ rest) rest (record { re = bytes (codes "b"); nesting = 1 })
+      (without_sign _ _ _ (a_leaf _ _ _ (a_string (sign (codes "*") ∷ rest) (codes "b")))) refl)));
+  is = refl;
   within = omega arith;
 }
+
+-- so many signs behind "a", and what that means
+abbrev stars : ℕ → List Lexeme → List Lexeme
+stars zero rest = rest
+stars (suc n) rest = stars n (sign (codes "*") ∷ rest)
+
+abbrev starred : ℕ → Written
+starred zero = record { re = bytes (codes "a"); nesting = 1 }
+starred (suc n) = with_sign a_star (starred n)
+
+so_deep : (n : ℕ) → (starred n).nesting ≡ n + 1
+so_deep zero = refl
+so_deep (suc n) = let more = so_deep n in omega (arith, more)
+
+starred_piece : (n : ℕ) (rest : List Lexeme) → Piece (text (codes "a") ∷ stars n rest) (starred n) rest
+starred_piece zero rest = without_sign _ rest _ (a_leaf _ rest _ (a_string rest (codes "a")))
+starred_piece (suc n) rest =
+    before_sign a_star _ (sign (codes "*") ∷ rest) rest (starred n) (starred_piece n (sign (codes "*") ∷ rest)) refl
+
+-- a nesting of 64 is an expression's, also without parentheses
+pub sixty_four_deep : (n : ℕ) → n ≤ 63 → (rest : List Lexeme) → IsRegex (text (codes "a") ∷ stars n rest) (starred n) rest
+sixty_four_deep n small rest = record {
+  rows = starred n ∷ [];
+  are = subst (λ row. Rows (text (codes "a") ∷ stars n rest) (row ∷ []) rest) (alone (starred n))
+      (last_row _ rest (starred n ∷ []) (last_piece _ rest (starred n) (starred_piece n rest)));
+  is = sym (alone_choice (starred n));
+  within = let deep = so_deep n in omega (arith, deep, small);
+}
+  where
+    alone : (w : Written) → row_of (w ∷ []) ≡ w
+    alone w = let same : max w.nesting 0 ≡ w.nesting = omega arith in ap (λ n. record { re = w.re; nesting = n }) same
+
+    alone_choice : (w : Written) → choice_of (w ∷ []) ≡ w
+    alone_choice w = let same : max w.nesting 0 ≡ w.nesting = omega arith in ap (λ n. record { re = w.re; nesting = n }) same
 
 -- STD is there without a line, so a line of it is of kind twice, also the first one
 pub std_again : (ds : List (Declared Saying)) → RexFault ds Twice 0 (state (codes "STD"))

@@ -2,7 +2,8 @@
 use Rattle.std.proofs.Common.{ℕ, zero, suc, List, refl, sym, ap, ◌∙◌, codes, arith}
 use Rattle.spec_text.specs.Lexemes.{Lexeme, sign}
 use Rattle.section_frame.specs.Parts.{first as by_first, second as by_second, Anything}
-use Rattle.front_spec.specs.Regexes.{Written, with_sign, Signed, plain, signed, row_of, choice_of, group, PieceOver, RowOver, AtomIn, RegexIn, NotSign, EndsRow, EndsRegex}
+use Rattle.front_spec.specs.Regexes.{Written, with_sign, row_of, choice_of, group, NotSign, EndsRow, EndsRegex}
+use Rattle.front_spec.specs.RegexSteps.{Signed, plain, signed, PieceOver, RowOver, AtomIn, RegexIn}
 use Rattle.section_frame.proofs.One.{One, one_behind, one_before, one_list, one_some}
 use Rattle.front_spec.proofs.RegexParts.{one_leaf, no_leaf_at, closes, Inner, PieceSoFar, piece_first, piece_more, ends_here, piece_no_sign, piece_stops, bar, bar_ends}
 

@@ -5,7 +5,7 @@ use Rattle.front_spec.specs.Regexes.{IsRegex, EndsRegex, meaning_of}
 use Rattle.front_spec.specs.RexShapes.{States, Body, Context, NoSlashEnds, Go, Produces, Skips, with_token, without_token, Action, RuleShape}
 use Rattle.section_frame.specs.Parts.{Part, Name, Opt, ListOf, Before, Then, Or, first as by_first, second as by_second, Seen, Follow, Anything, Nothing, NotFirst, comma}
 use Rattle.section_frame.proofs.One.{One, one_name, one_opt, one_behind, one_before, one_list, one_then}
-use Rattle.front_spec.proofs.OneRegex.{one_regex}
+use Rattle.front_spec.proofs.RegexForms.{one_expression}
 use Rattle.front_spec.proofs.RuleReadings.{NotLess, Behind_body, Behind_states, action_first, behind_body_first, body_first}
 
 one_seen : {V W : Type 0} (f : V → W) (P : Part V) (F : Follow) → One P F → One (Seen f P) F
@@ -32,7 +32,7 @@ one_action = one_behind (Or (Seen with_token Produces) (Seen without_token Skips
     apart rest more e = let code : ◌≡◌ {A = ℕ} 84 83 = cc in omega (arith, code)
 
 one_body : One Body EndsRegex
-one_body = one_seen meaning_of IsRegex EndsRegex (one_regex 64)
+one_body = one_seen meaning_of IsRegex EndsRegex one_expression
 
 one_context : One (Opt Context) NoSlashEnds
 one_context = one_opt Context NoSlashEnds

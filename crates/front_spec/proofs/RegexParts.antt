@@ -7,7 +7,8 @@ use Rattle.spec_text.specs.Seen.{seen}
 use Rattle.spec_text.specs.declared.view.Token.{Token}
 use Rattle.spec_text.specs.Lexemes.{Lexeme, text, class as byte_set, sign}
 use Rattle.section_frame.specs.Parts.{Part, Fixed, Behind, Before, first as by_first, second as by_second, Anything, Reading, NoReading}
-use Rattle.front_spec.specs.Regexes.{Written, Leaf, a_string, a_class, a_dot, Sign, a_star, a_plus, a_question, glyph_of, with_sign, Signed, plain, signed, deepest, meaning_of, joined, row_of, group, PieceOver, RowOver, AtomIn, RegexIn, NotSign, EndsRow, EndsRegex}
+use Rattle.front_spec.specs.Regexes.{Written, Leaf, a_string, a_class, a_dot, Sign, a_star, a_plus, a_question, glyph_of, with_sign, deepest, meaning_of, joined, row_of, group, NotSign, EndsRow, EndsRegex}
+use Rattle.front_spec.specs.RegexSteps.{Signed, plain, signed, PieceOver, RowOver, AtomIn, RegexIn}
 use Rattle.section_frame.proofs.Readings.{behind, before, none_behind, none_before, not_behind, not_before, SomeSoFar, some_first, some_more, some_none, some_end, ListSoFar, list_first, list_more, list_none, list_none_first}
 
 -- two signs of one byte

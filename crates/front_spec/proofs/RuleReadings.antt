@@ -1,10 +1,10 @@
 -- How the line of a rule is read.
-use Rattle.std.proofs.Common.{◌≡◌, ℕ, zero, suc, List, [], ◌∷◌, refl, sym, ap, ◌∙◌, Option, Some, None, codes, arith}
+use Rattle.std.proofs.Common.{◌≡◌, ℕ, List, [], ◌∷◌, refl, sym, ap, ◌∙◌, Option, Some, None, codes, arith}
 use Rattle.rex_model.specs.Language.{Re}
 use Rattle.spec_text.specs.Lexemes.{Lexeme, word, sign}
-use Rattle.front_spec.specs.Regexes.{Written, Leaf, a_string, a_class, a_dot, Signed, plain, signed, IsRegex, AtomIn, PieceOver, RowOver, EndsRegex}
+use Rattle.front_spec.specs.Regexes.{Written, Leaf, a_string, a_class, a_dot, Atom, a_leaf, a_group, Piece, without_sign, before_sign, Row, last_piece, piece_before, Rows, last_row, row_before, IsRegex, EndsRegex}
 use Rattle.front_spec.specs.RexShapes.{States, Body, Context, NoSlashEnds, Go, Produces, Skips, with_token, without_token, Action, SaidRule, RuleLine}
-use Rattle.section_frame.specs.Parts.{Part, Fixed, Name, Opt, absent, present, ListBy, ListOf, last, next, Some1, last_one, one_more, Before, Then, Or, first as by_first, second as by_second, Seen, Follow, Nothing, NotFirst, Reading, NoReading, comma}
+use Rattle.section_frame.specs.Parts.{Part, Fixed, Name, Opt, absent, present, ListOf, Before, Then, Or, first as by_first, second as by_second, Seen, Follow, Nothing, NotFirst, Reading, NoReading, comma}
 use Rattle.section_frame.proofs.Readings.{name_reading, opt_present, opt_absent, opt_none, behind, before, none_behind, not_behind, none_first, none_second}
 use Rattle.front_spec.proofs.RegexParts.{same_code, no_glyph, no_leaf_at}
 
@@ -68,25 +68,24 @@ leaf_no_less _ rest _ (a_string _ said) = λ more e. (cc)
 leaf_no_less _ rest _ (a_class _ set) = λ more e. (cc)
 leaf_no_less _ rest _ (a_dot dot _ is) = rw is (λ more e. let c = same_code 46 60 rest more e in omega (arith, c))
 
-atom_no_less : (depth : ℕ) (tokens rest : List Lexeme) (w : Written) → AtomIn depth tokens w rest → NotLess tokens
-atom_no_less zero tokens rest w is = leaf_no_less tokens rest w is
-atom_no_less (suc depth) tokens _ _ (by_first _ rest w is) = leaf_no_less tokens rest w is
-atom_no_less (suc depth) tokens _ _ (by_second _ rest w is) = rw is.is.first (λ more e. let c = same_code 40 60 is.is.after more e in omega (arith, c))
+atom_no_less : (tokens rest : List Lexeme) (w : Written) → Atom tokens w rest → NotLess tokens
+atom_no_less _ _ _ (a_leaf tokens rest w is) = leaf_no_less tokens rest w is
+atom_no_less _ _ _ (a_group tokens inner after rest rows opens are end) = rw opens (λ more e. let c = same_code 40 60 inner more e in omega (arith, c))
 
-signed_no_less : (depth : ℕ) (tokens rest : List Lexeme) (w : Written) → Signed (AtomIn depth) tokens w rest → NotLess tokens
-signed_no_less depth _ _ _ (plain tokens rest w is) = atom_no_less depth tokens rest w is
-signed_no_less depth _ _ _ (signed s tokens after rest w is at) = signed_no_less depth tokens after w is
+piece_no_less : (tokens rest : List Lexeme) (w : Written) → Piece tokens w rest → NotLess tokens
+piece_no_less _ _ _ (without_sign tokens rest w is) = atom_no_less tokens rest w is
+piece_no_less _ _ _ (before_sign s tokens after rest w is at) = piece_no_less tokens after w is
 
 regex_no_less : (tokens rest : List Lexeme) (w : Written) → IsRegex tokens w rest → NotLess tokens
-regex_no_less tokens rest w is = rows tokens rest is.is.v is.is.is
+regex_no_less tokens rest w is = rows tokens rest is.rows is.are
   where
-    row : (tokens rest : List Lexeme) (ws : List Written) → Some1 (λ t w r. PieceOver (AtomIn 64) t w r) tokens ws rest → NotLess tokens
-    row _ _ _ (last_one tokens rest w is) = signed_no_less 64 tokens rest w is.is
-    row _ _ _ (one_more tokens after rest w ws is others) = signed_no_less 64 tokens after w is.is
+    row : (tokens rest : List Lexeme) (ws : List Written) → Row tokens ws rest → NotLess tokens
+    row _ _ _ (last_piece tokens rest w is) = piece_no_less tokens rest w is
+    row _ _ _ (piece_before tokens after rest w ws is more) = piece_no_less tokens after w is
 
-    rows : (tokens rest : List Lexeme) (ws : List Written) → ListBy (sign (codes "|")) (RowOver (AtomIn 64)) tokens ws rest → NotLess tokens
-    rows _ _ _ (last tokens rest w is) = row tokens rest is.v is.is
-    rows _ _ _ (next tokens after rest w ws is others) = row tokens (sign (codes "|") ∷ after) is.v is.is
+    rows : (tokens rest : List Lexeme) (ws : List Written) → Rows tokens ws rest → NotLess tokens
+    rows _ _ _ (last_row tokens rest pieces is) = row tokens rest pieces is
+    rows _ _ _ (row_before tokens after rest pieces more is others) = row tokens (sign (codes "|") ∷ after) pieces is
 
 -- what the parts begin with
 pub action_first : (tokens : List Lexeme) (w : Option (List ℕ) × Option (List ℕ)) (rest : List Lexeme) → Nothing rest → Action tokens w rest → NoSlashEnds tokens

@@ -6,13 +6,13 @@ use Rattle.ck_base.specs.declared.fault.Kind.TheVariants.{Twice}
 use Rattle.rex_model.specs.Language.{bytes}
 use Rattle.section_frame.specs.Declares.{Declared, HasFault}
 use Rattle.spec_text.specs.Lexemes.{Lexeme, word, text, sign}
-use Rattle.section_frame.specs.Parts.{Or, Seen, absent, present, last, last_one, first as by_first, second as by_second, Nothing, Reading}
+use Rattle.section_frame.specs.Parts.{Or, Seen, absent, present, last, second as by_second, Nothing, Reading}
 use Rattle.section_frame.proofs.Readings.{not_behind}
-use Rattle.front_spec.specs.Regexes.{Written, is_dot_byte, a_string, plain, meaning_of, IsRegex, EndsRegex}
+use Rattle.front_spec.specs.Regexes.{Written, is_dot_byte, a_string, a_leaf, without_sign, last_piece, last_row, meaning_of, IsRegex, EndsRegex}
 use Rattle.front_spec.specs.RexShapes.{Body, Produces, Skips, with_token, without_token, SaidRule, RuleLine, Saying, state, rule, RexShape}
 use Rattle.front_spec.specs.RexFaults.{RexFault, second_state, state_is_std, token_is_end, no_active_state, no_go_state, too_many_states, too_many_positions, rex}
 use Rattle.front_spec.specs.RexRules.{rules_by}
-use Rattle.front_spec.proofs.OneRegex.{one_regex}
+use Rattle.front_spec.proofs.RegexForms.{one_expression, no_expression}
 use Rattle.front_spec.proofs.OneSaying.{state_or_rule, neither_shape}
 use Rattle.front_spec.proofs.RegexParts.{same_code, no_leaf_at, no_open, no_piece, no_row, no_rows}
 use Rattle.front_spec.proofs.RuleReadings.{ends_at, seen_none, no_states, no_context_there, no_body, no_action}
@@ -29,9 +29,9 @@ pub no_empty_sequence : (said : Saying) → RexShape (word (codes "RULE") ∷ co
 no_empty_sequence = neither_shape (word (codes "RULE") ∷ colon_skip) (λ name is. state_or_rule _ _ _ is refl)
     (no_body (word (codes "RULE") ∷ colon_skip) colon_skip colon_skip None refl
     (no_states colon_skip (λ after e. let c = same_code 58 60 _ after e in omega (arith, c)))
-    (seen_none meaning_of IsRegex EndsRegex colon_skip
+    (seen_none meaning_of IsRegex EndsRegex colon_skip (no_expression colon_skip
     (no_rows 64 colon_skip (no_row 64 colon_skip (no_piece 64 colon_skip
-    (no_open 63 colon_skip (no_leaf_at 58 _ (λ e. omega (arith, e))) (λ inner e. let c = same_code 58 40 _ inner e in omega (arith, c))))))))
+    (no_open 63 colon_skip (no_leaf_at 58 _ (λ e. omega (arith, e))) (λ inner e. let c = same_code 58 40 _ inner e in omega (arith, c)))))))))
 
 -- the states stand before the expression, and not behind it
 abbrev a_once : Written
@@ -39,15 +39,9 @@ a_once = record { re = bytes (codes "a"); nesting = 1 }
 
 a_regex : (rest : List Lexeme) → IsRegex (text (codes "a") ∷ rest) a_once rest
 a_regex rest = record {
-  is = record {
-    v = a_once ∷ [];
-    is = last _ rest a_once (record {
-      v = a_once ∷ [];
-      is = last_one _ rest a_once (record { is = plain _ rest a_once (by_first _ rest a_once (a_string rest (codes "a"))); within = omega arith });
-      said = refl;
-    });
-    said = refl;
-  };
+  rows = a_once ∷ [];
+  are = last_row _ rest (a_once ∷ []) (last_piece _ rest a_once (without_sign _ rest a_once (a_leaf _ rest a_once (a_string rest (codes "a")))));
+  is = refl;
   within = omega arith;
 }
 
@@ -91,7 +85,7 @@ a_body : Reading Body EndsRegex (text (codes "a") ∷ in_x colon_skip) (bytes (c
 a_body = record {
   is = record { v = a_once; is = a_regex (in_x colon_skip); said = refl };
   only = λ re more ends is.
-      let same = one_regex 64 (text (codes "a") ∷ in_x colon_skip) more (in_x colon_skip) is.v a_once ends (less_ends _) is.is (a_regex (in_x colon_skip)) in
+      let same = one_expression (text (codes "a") ∷ in_x colon_skip) more (in_x colon_skip) is.v a_once ends (less_ends _) is.is (a_regex (in_x colon_skip)) in
       (is.said ∙ ap meaning_of same.0, same.1);
 }
 

@@ -1,4 +1,5 @@
 pub mod Regexes
+pub mod RegexSteps
 pub mod RexShapes
 pub mod RexFaults
 pub mod RexRules

@@ -1,9 +1,9 @@
 -- Regular expressions of a specification: what the tokens mean, and how deep the expression is.
-use Rattle.std.specs.Prelude.{◌≡◌, ℕ, zero, suc, ◌+◌, ◌≤◌, ◌==◌, ◌&&◌, not, max, Bool, List, [], ◌∷◌, map, codes, nat_lt}
+use Rattle.std.specs.Prelude.{◌≡◌, ℕ, ◌+◌, ◌≤◌, ◌==◌, ◌&&◌, not, max, Bool, List, [], ◌∷◌, map, codes, nat_lt}
 use Rattle.rex_model.specs.Language.{Re, bytes, class, star, plus, optional}
 use Rattle.rex_model.specs.Meaning.{sequence_of, alternative_of}
 use Rattle.spec_text.specs.Lexemes.{Lexeme, text, class as byte_set, sign}
-use Rattle.section_frame.specs.Parts.{Part, Follow, Fixed, Some1, ListBy, Behind, Before, Or, Seen, NotFirst}
+use Rattle.section_frame.specs.Parts.{Follow, Fixed, NotFirst}
 
 -- what an expression means, and its nesting
 pub record Written : Type 0 where
@@ -42,17 +42,6 @@ repeated a_question = optional
 abbrev pub with_sign : Sign → Written → Written
 with_sign s w = record { re = repeated s w.re; nesting = w.nesting + 1 }
 
--- an atom and any number of signs
-pub data Signed (Atom : Part Written) : List Lexeme → Written → List Lexeme → Type 0 where
-  plain : (tokens rest : List Lexeme) (w : Written) → Atom tokens w rest → Signed Atom tokens w rest
-  signed : (s : Sign) (tokens after rest : List Lexeme) (w : Written) → Signed Atom tokens w after → Fixed (glyph_of s) after rest
-      → Signed Atom tokens (with_sign s w) rest
-
--- the nesting is at most 64
-pub record Limited (P : Part Written) (tokens : List Lexeme) (w : Written) (rest : List Lexeme) : Type 0 where
-  pub is : P tokens w rest
-  pub within : w.nesting ≤ 64
-
 -- the greatest nesting among these, 0 for none
 abbrev pub deepest : List Written → ℕ
 deepest [] = 0
@@ -80,30 +69,38 @@ choice_of rows = joined alternative_of (map meaning_of rows) (deepest rows)
 abbrev pub group : Written → Written
 group inner = record { re = inner.re; nesting = inner.nesting + 1 }
 
--- an atom with any signs behind it, within the limit of nesting
-abbrev pub PieceOver : Part Written → Part Written
-PieceOver Atom = Limited (Signed Atom)
+-- the tokens begin with such a part of an expression, and those follow
+mutual
+  -- a string, a class, `.`, or an expression in parentheses
+  pub data Atom : List Lexeme → Written → List Lexeme → Type 0 where
+    a_leaf : (tokens rest : List Lexeme) (w : Written) → Leaf tokens w rest → Atom tokens w rest
+    a_group : (tokens inner after rest : List Lexeme) (rows : List Written) → Fixed (sign (codes "(")) tokens inner
+        → Rows inner rows after → Fixed (sign (codes ")")) after rest → Atom tokens (group (choice_of rows)) rest
 
--- one piece or more
-abbrev pub RowOver : Part Written → Part Written
-RowOver Atom = Seen row_of (Some1 (PieceOver Atom))
+  -- an atom and any number of signs
+  pub data Piece : List Lexeme → Written → List Lexeme → Type 0 where
+    without_sign : (tokens rest : List Lexeme) (w : Written) → Atom tokens w rest → Piece tokens w rest
+    before_sign : (s : Sign) (tokens after rest : List Lexeme) (w : Written) → Piece tokens w after → Fixed (glyph_of s) after rest
+        → Piece tokens (with_sign s w) rest
 
--- rows with bars between, within the limit of nesting
-abbrev pub RegexOver : Part Written → Part Written
-RegexOver Atom = Limited (Seen choice_of (ListBy (sign (codes "|")) (RowOver Atom)))
+  -- a sequence: one piece or more
+  pub data Row : List Lexeme → List Written → List Lexeme → Type 0 where
+    last_piece : (tokens rest : List Lexeme) (w : Written) → Piece tokens w rest → Row tokens (w ∷ []) rest
+    piece_before : (tokens after rest : List Lexeme) (w : Written) (ws : List Written) → Piece tokens w after → Row after ws rest
+        → Row tokens (w ∷ ws) rest
 
--- an atom, in which so many parentheses may stand round one another
-abbrev pub AtomIn : ℕ → Part Written
-AtomIn zero = Leaf
-AtomIn (suc depth) = Or Leaf (Seen group (Behind (sign (codes "(")) (Before (RegexOver (AtomIn depth)) (sign (codes ")")))))
-
--- an expression of a line: each pair of parentheses adds one, so no more than 64 stand round one another
-abbrev pub RegexIn : ℕ → Part Written
-RegexIn depth = RegexOver (AtomIn depth)
+  -- alternatives: one sequence or more, with `|` between
+  pub data Rows : List Lexeme → List Written → List Lexeme → Type 0 where
+    last_row : (tokens rest : List Lexeme) (pieces : List Written) → Row tokens pieces rest → Rows tokens (row_of pieces ∷ []) rest
+    row_before : (tokens after rest : List Lexeme) (pieces rows : List Written) → Row tokens pieces (sign (codes "|") ∷ after)
+        → Rows after rows rest → Rows tokens (row_of pieces ∷ rows) rest
 
 -- a regular expression of nesting at most 64
-abbrev pub IsRegex : Part Written
-IsRegex = RegexIn 64
+pub record IsRegex (tokens : List Lexeme) (w : Written) (rest : List Lexeme) : Type 0 where
+  pub rows : List Written
+  pub are : Rows tokens rows rest
+  pub is : w ≡ choice_of rows
+  pub within : w.nesting ≤ 64
 
 -- what may follow a piece, a sequence, and an expression
 abbrev pub NotSign : Follow

@@ -1,7 +1,8 @@
-// Laws of both readers, on empty functions: exactly one of a fault and declarations, in one way.
-ghost use Rattle.std.specs.Prelude.{◌≡◌, ℕ, Bool, List};
+// Laws of both readers, on empty functions: one of a fault and declarations, in one way, and ranges.
+ghost use Rattle.std.specs.Prelude.{◌≡◌, ℕ, Bool, List, length};
 ghost use Rattle.ck_base.specs.Found.{HasNo};
 ghost use Rattle.ck_base.specs.declared.fault.Kind.{Kind};
+ghost use Rattle.cfg_model.specs.Cfg.{IsGrammar};
 ghost use Rattle.cfg_model.specs.declared.named.NamedGrammar.{NamedGrammar as named_grammar};
 ghost use Rattle.rex_model.specs.Rules.{Rules};
 ghost use Rattle.section_frame.specs.Declares.{judged};
@@ -78,4 +79,15 @@ pub fn one_grammar()
     ensures not_both { (file : List ℕ) (tokens : List (List ℕ)) (g : named_grammar) (line : ℕ)
         (kind : Kind) → DeclaresGrammar file tokens g
         → FirstGrammarFault file tokens line kind → ⊥ }
+{}
+
+/// Law: a grammar that a section declares is in its ranges; it has a name for each nonterminal and
+/// a label for each rule, and its terminals are the tokens.
+pub fn declared_in_range()
+    ensures in_range { (file : List ℕ) (tokens : List (List ℕ)) (g : named_grammar)
+        → DeclaresGrammar file tokens g → IsGrammar g.grammar }
+    ensures counts { (file : List ℕ) (tokens : List (List ℕ)) (g : named_grammar)
+        → DeclaresGrammar file tokens g → (g.grammar.terminals ≡ length tokens)
+        × (length g.nonterminals ≡ g.grammar.nonterminals)
+        × (length g.labels ≡ length g.grammar.rules) }
 {}

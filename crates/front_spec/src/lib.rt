@@ -3,6 +3,7 @@
 //! | what | file |
 //! |---|---|
 //! | a regular expression of a line, with its nesting | `specs/Regexes.antt`; `src/regexes.rt` |
+//! | how the reader goes over it | `specs/RegexSteps.antt`; both are the same `proofs/RegexForms.antt` |
 //! | the shapes of REX, and what a line declares | `specs/RexShapes.antt`; `src/rule.rt`, `src/declaration.rt` |
 //! | the kinds of faults | `specs/RexFaults.antt`; `src/fault.rt` |
 //! | the scan rules that are declared | `specs/RexRules.antt`; `src/rules.rt` |
@@ -28,9 +29,10 @@ mod rex;
 mod rule;
 mod rules;
 
+pub use cfg_model::NamedGrammar;
 pub use grammar::read_grammar;
 pub use laws::{
     at_most_one_declaration, at_most_one_grammar_section, at_most_one_production,
-    at_most_one_regex, fault_or_declarations, one_grammar, one_rex,
+    at_most_one_regex, declared_in_range, fault_or_declarations, one_grammar, one_rex,
 };
 pub use rex::read_rex;

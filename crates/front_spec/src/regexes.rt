@@ -5,7 +5,8 @@ ghost use Rattle.spec_text.specs.Lexemes.{Lexeme};
 ghost use Rattle.spec_text.specs.Seen.{seen};
 ghost use Rattle.front_spec.specs.Seen.{sign_in, written_of};
 ghost use Rattle.section_frame.specs.Parts.{Anything, Fixed, NoReading, Reading};
-ghost use Rattle.front_spec.specs.Regexes.{Written, Leaf, AtomIn, PieceOver, RowOver, RegexIn, NotSign, EndsRow, EndsRegex, glyph_of, joined, with_sign, is_dot_byte};
+ghost use Rattle.front_spec.specs.Regexes.{Written, Leaf, NotSign, EndsRow, EndsRegex, glyph_of, joined, with_sign, is_dot_byte};
+ghost use Rattle.front_spec.specs.RegexSteps.{AtomIn, PieceOver, RowOver, RegexIn};
 
 use bumpalo::Bump;
 use bumpalo::collections::into_bump_slice;
