@@ -1,0 +1,10 @@
+pub mod BoundValues
+pub mod Comes
+pub mod Found
+pub mod Matches
+pub mod PurePatterns
+pub mod Rules
+pub mod Scene
+pub mod Typed
+pub mod TypedRules
+pub mod within
