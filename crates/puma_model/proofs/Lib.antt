@@ -1,5 +1,5 @@
 pub mod ConformingTrees
-pub mod Examples
+mod Examples
 pub mod FirstMatch
 pub mod MatchCode
 pub mod MatchSteps

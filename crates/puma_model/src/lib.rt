@@ -2,7 +2,8 @@
 //!
 //! | what | file |
 //! |---|---|
-//! | a pattern; a rule with its clauses; a routine | `src/pattern.rt`, `src/rules.rt`; `specs/PurePatterns.antt`, `specs/Rules.antt` |
+//! | a pattern | `src/pattern.rt`; `specs/PurePatterns.antt` |
+//! | a rule with its clauses; a routine | `src/rules.rt`; `specs/Rules.antt` |
 //! | what a pattern matches, and what it binds | `specs/Matches.antt` |
 //! | what a call comes to, and in how many calls | `specs/Comes.antt` |
 //! | of which type a value is in a world; typed rules | `specs/Typed.antt`, `specs/TypedRules.antt` |
@@ -11,6 +12,7 @@
 //! | the first rule that matches | `src/matcher.rt`; `specs/Found.antt` |
 //! | a pattern against a value; the parts of a node | `src/matching.rt`, `src/parts.rt` |
 //! | law: one match, one result | `src/laws.rt` |
+//! | what usable types give; the definitions at work | `proofs/UsableTypes.antt`; `proofs/Examples.antt` |
 #![tactic(auto)]
 
 mod bindings;
