@@ -1,3 +1,5 @@
 pub mod Assigned
+pub mod Bound
 pub mod Chosen
+pub mod Code
 pub mod within
