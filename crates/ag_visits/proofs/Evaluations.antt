@@ -27,10 +27,11 @@ use Rattle.ag_model.specs.ValueTable.{ValueTable, value_in, SetsValue}
 use Rattle.ag_model.specs.declared.attribution.Place.{Place}
 use Rattle.ag_model.specs.declared.attribution.Place.TheVariants.{Own, Child}
 use Rattle.ag_model.specs.declared.plan.PlanStep.TheVariants.{Evaluate}
-use Rattle.ag_visits.specs.VisitedTree as visited
-use Rattle.ag_visits.specs.Visits.{State, Known, IsSound, Moves, Puts, Turn, Fitting}
-use Rattle.ag_visits.specs.Visits as turn
-use Rattle.ag_visits.specs.OfTree.{tree_of, val_of, kinds_at, sets_at, steps_at, IsReady, IsWide, no_sources, attribute_type, pure_values, AreTyped, env_of}
+use Rattle.ag_visits.specs.within.VisitedTree as visited
+use Rattle.ag_visits.specs.within.Visits.{State, Known, IsSound, Moves, Puts, Turn, Fitting}
+use Rattle.ag_visits.specs.within.Visits as turn
+use Rattle.ag_visits.specs.Promise.{no_sources, attribute_type, pure_values}
+use Rattle.ag_visits.specs.within.OfTree.{tree_of, val_of, kinds_at, sets_at, steps_at, IsReady, IsWide, AreTyped, env_of}
 use Rattle.ag_visits.proofs.Fits.{fitting, child_family}
 use Rattle.ag_visits.proofs.KnownAtHand.{at_hand_known, known_below}
 use Rattle.ag_visits.proofs.OneMoreTurn.{loud_known}

@@ -20,9 +20,9 @@ use Rattle.ag_model.specs.Plans.{PurePlan, PlanFits, TypeFits, AtHand, TakesIn, 
 use Rattle.ag_model.specs.Plans as plans
 use Rattle.ag_model.specs.Solution.{type_family}
 use Rattle.ag_model.proofs.SolvesByEquations.{parent_there}
-use Rattle.ag_visits.specs.VisitedTree.{IsChild, IsTree}
-use Rattle.ag_visits.specs.Visits.{Fitting}
-use Rattle.ag_visits.specs.OfTree.{tree_of, kinds_at, sets_at, steps_at, IsReady, IsWide}
+use Rattle.ag_visits.specs.within.VisitedTree.{IsChild, IsTree}
+use Rattle.ag_visits.specs.within.Visits.{Fitting}
+use Rattle.ag_visits.specs.within.OfTree.{tree_of, kinds_at, sets_at, steps_at, IsReady, IsWide}
 use Rattle.ag_visits.specs.Promise.{HasRoot}
 use Rattle.ag_visits.proofs.Ticks.{IsFull}
 

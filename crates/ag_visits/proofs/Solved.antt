@@ -16,11 +16,11 @@ use Rattle.ag_model.specs.declared.attribution.Place.{Place}
 use Rattle.ag_model.specs.declared.attribution.Place.TheVariants.{Own, Child}
 use Rattle.ag_model.proofs.SolvesByEquations.{solves_by_equations, equations_of_solved}
 use Rattle.ag_visits.specs.declared.walk.Walk.{Walk}
-use Rattle.ag_visits.specs.VisitedTree as visited
-use Rattle.ag_visits.specs.Visits.{State, Known, IsSound, Fitting}
-use Rattle.ag_visits.specs.OfTree.{tree_of, val_of, kinds_at, sets_at, steps_at, IsReady, IsWide, no_sources, instances}
-use Rattle.ag_visits.specs.Walks.{position_of, state_of, Begins, IsRunning, Turns}
-use Rattle.ag_visits.specs.Promise.{IsInstance, AreValues, HasOneSolution}
+use Rattle.ag_visits.specs.within.VisitedTree as visited
+use Rattle.ag_visits.specs.within.Visits.{State, Known, IsSound, Fitting}
+use Rattle.ag_visits.specs.within.OfTree.{tree_of, val_of, kinds_at, sets_at, steps_at, IsReady, IsWide}
+use Rattle.ag_visits.specs.within.Walks.{position_of, state_of, Begins, IsRunning, Turns}
+use Rattle.ag_visits.specs.Promise.{IsInstance, AreValues, HasOneSolution, no_sources, instances}
 use Rattle.ag_visits.proofs.Paths.{map_same}
 use Rattle.ag_visits.proofs.Fits.{fitting, is_full, length_kinds}
 use Rattle.ag_visits.proofs.OneSolution.{total, total_same, total_front, total_zero, begins_sound, visits_end, solves_at_end, steps_left, fewer_left}

@@ -9,8 +9,8 @@ ghost use Rattle.tree_store.specs.Forest.{node_at};
 ghost use Rattle.ag_model.specs.Attribution.{grammar_of, equations_of, equation_of, equation_rows, PureEquation, IsEquation};
 ghost use Rattle.ag_model.specs.Solution.{node_of, attribute_of, expression_at, expressions_of};
 ghost use Rattle.ag_model.specs.ValueTable.{value_in, SetsValue};
-ghost use Rattle.ag_visits.specs.OfTree.{env_of};
-ghost use Rattle.ag_visits.specs.Walks.{IsThere, Evaluates};
+ghost use Rattle.ag_visits.specs.within.OfTree.{env_of};
+ghost use Rattle.ag_visits.specs.within.Walks.{IsThere, Evaluates};
 
 use ag_model::{Attribution, Equation, Place, Values};
 use ast_types::Types;

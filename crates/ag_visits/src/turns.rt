@@ -8,8 +8,8 @@ ghost use Rattle.tree_store.specs.Forest.{node_at, children_at, IsChild};
 ghost use Rattle.ag_model.specs.Attribution.{grammar_of, equations_of, equation_rows, PureEquation, IsEquation};
 ghost use Rattle.ag_model.specs.Solution.{expression_at, expressions_of};
 ghost use Rattle.ag_model.specs.Typed.{IsTyped};
-ghost use Rattle.ag_visits.specs.OfTree.{env_of, steps_at, IsReady};
-ghost use Rattle.ag_visits.specs.Walks.{position_of, Advances, LeavesTo, IsThere, EvaluatesIn, IsRunning, Turns};
+ghost use Rattle.ag_visits.specs.within.OfTree.{env_of, steps_at, IsReady};
+ghost use Rattle.ag_visits.specs.within.Walks.{position_of, Advances, LeavesTo, IsThere, EvaluatesIn, IsRunning, Turns};
 
 use crate::evaluation::evaluate;
 use crate::walk::{Walk, advance, node_above, step_of};

@@ -7,8 +7,7 @@ ghost use Rattle.ag_model.specs.Attribution.{grammar_of};
 ghost use Rattle.ag_model.specs.Plans.{PlanFits};
 ghost use Rattle.ag_model.specs.Solution.{expressions_of};
 ghost use Rattle.ag_model.specs.Typed.{IsAttributionOf};
-ghost use Rattle.ag_visits.specs.OfTree.{instances};
-ghost use Rattle.ag_visits.specs.Promise.{HasRoot, AreValues, HasOneSolution};
+ghost use Rattle.ag_visits.specs.Promise.{HasRoot, AreValues, HasOneSolution, instances};
 
 use crate::turns::turn;
 use crate::walk::{begin, widest};

@@ -2,8 +2,8 @@
 ghost use Rattle.std.specs.Prelude.{◌≡◌, ℕ, ◌+◌, ◌<◌, ◌≤◌, ◌^◌, IfOk, length, slice_get, slice_index, Some, pos};
 ghost use Rattle.ag_model.specs.Attribution.{attribute_rows};
 ghost use Rattle.ag_model.specs.ValueTable.{value_in};
-ghost use Rattle.ag_visits.specs.OfTree.{steps_at};
-ghost use Rattle.ag_visits.specs.Walks.{Begins, Advances, LeavesTo, position_of};
+ghost use Rattle.ag_visits.specs.within.OfTree.{steps_at};
+ghost use Rattle.ag_visits.specs.within.Walks.{Begins, Advances, LeavesTo, position_of};
 ghost use Rattle.tree_store.specs.Forest.{node_at};
 
 use ag_model::{Attribute, Plan, PlanStep, Values};

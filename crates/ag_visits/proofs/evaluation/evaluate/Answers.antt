@@ -7,7 +7,7 @@ use Rattle.expr_lang.specs.Meaning.{meaning}
 use Rattle.ag_model.specs.Attribution.{IsEquation, grammar_of, equation_of}
 use Rattle.expr_lang.specs.ValueOf.{no_tokens}
 use Rattle.ag_model.specs.Solution.{expression_at, expressions_of}
-use Rattle.ag_visits.specs.OfTree.{env_of}
+use Rattle.ag_visits.specs.within.OfTree.{env_of}
 use Rattle.ag_visits.proofs.evaluation.evaluate.Goals as goal
 
 pub gather-requires-clause-uses : goal.gather-requires-clause-uses

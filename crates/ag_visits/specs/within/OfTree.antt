@@ -1,26 +1,26 @@
 -- What a tree, an attribution and a plan are for the visits.
-use Rattle.std.specs.Prelude.{◌≡◌, ℕ, ◌+◌, ◌<◌, ◌≤◌, ◌++◌, Bool, false, List, [], ◌∷◌, length, map, Some, slice_get, slice_index}
+use Rattle.std.specs.Prelude.{ℕ, ◌<◌, ◌≤◌, ◌++◌, Bool, List, length, map, slice_index}
 use Rattle.value_store.specs.Cells.{Cell}
 use Rattle.value_store.specs.declared.value.ValType.{ValType}
 use Rattle.value_store.specs.declared.value.Value.{Value}
 use Rattle.expr_lang.specs.Expression.{Expression}
 use Rattle.expr_lang.specs.OfType.{IsOf}
-use Rattle.expr_lang.specs.PureOf.{pure_of, pure_field}
+use Rattle.expr_lang.specs.PureOf.{pure_field}
 use Rattle.expr_lang.specs.PureValues.{PureValue}
 use Rattle.expr_lang.specs.ValueOf.{no_tokens, value_of}
 use Rattle.tree_store.specs.Conforms.{Conforms}
 use Rattle.tree_store.specs.Forest.{Node, node_at, children_at, IsForest, OnlyRoot}
-use Rattle.ag_model.specs.Attribution.{AttributeGrammar, family_of, kinds_of, equations_of, attributes_of}
+use Rattle.ag_model.specs.Attribution.{AttributeGrammar, kinds_of, equations_of}
 use Rattle.ag_model.specs.Numbers.{size_of}
 use Rattle.ag_model.specs.Plans.{PurePlan, PlanFits, steps_of, sets_of}
 use Rattle.ag_model.specs.Solution.{expression_at, type_family, node_of, attribute_of}
 use Rattle.ag_model.specs.Complete.{IsComplete}
-use Rattle.ag_model.specs.Typed.{type_in}
 use Rattle.ag_model.specs.ValueTable.{ValueTable, value_in}
 use Rattle.ag_model.specs.declared.attribution.Place.{Place}
 use Rattle.ag_model.specs.declared.plan.PlanStep.{PlanStep}
-use Rattle.ag_visits.specs.VisitedTree.{VisitedTree}
-use Rattle.ag_visits.specs.Visits.{Known}
+use Rattle.ag_visits.specs.Promise.{InheritsNone, no_sources, attribute_type}
+use Rattle.ag_visits.specs.within.VisitedTree.{VisitedTree}
+use Rattle.ag_visits.specs.within.Visits.{Known}
 
 -- the tree that is visited, where no family has more attributes than the width
 abbrev pub tree_of : AttributeGrammar → ℕ → List Node → VisitedTree
@@ -47,10 +47,6 @@ sets_at g plan nodes n = sets_of plan (type_family g nodes n)
 abbrev pub steps_at : PurePlan → List Node → ℕ → List PlanStep
 steps_at plan nodes n = steps_of plan (node_at nodes n).ty
 
--- the family has no inherited attribute
-abbrev pub InheritsNone : AttributeGrammar → ℕ → Type 0
-InheritsNone g x = (a : ℕ) → slice_get (kinds_of g x) a ≡ Some false → ⊥
-
 -- the tree is one of the attribution's types, and the plan fits
 pub record IsReady (g : AttributeGrammar) (plan : PurePlan) (nodes : List Node) : Type 0 where
   pub complete : IsComplete g
@@ -64,23 +60,6 @@ pub record IsReady (g : AttributeGrammar) (plan : PurePlan) (nodes : List Node) 
 -- no family has more attributes than this
 abbrev pub IsWide : AttributeGrammar → ℕ → Type 0
 IsWide g width = (x : ℕ) → size_of g x ≤ width
-
--- how many attributes the families of nodes have: as many instances there are
-abbrev pub instances : AttributeGrammar → List Node → ℕ
-instances g [] = 0
-instances g (node ∷ nodes) = size_of g (family_of g node.ty) + instances g nodes
-
--- nodes of no family are those of the source tree
-abbrev pub no_sources : ℕ → ℕ → Bool
-no_sources node family = false
-
--- the type of an attribute of a node
-abbrev pub attribute_type : AttributeGrammar → List Node → ℕ → ℕ → ValType
-attribute_type g nodes n a = type_in (slice_get (attributes_of g (type_family g nodes n)) a)
-
--- the values of the table, by the bytes of texts and the cells of a store
-abbrev pub pure_values : List ℕ → List ℕ → List Cell → ValueTable → ℕ → ℕ → PureValue
-pure_values s l cells table n a = pure_of s l cells (value_in table n a)
 
 -- values that are evaluated are of their attributes' types; each value is of some type
 pub record AreTyped (g : AttributeGrammar) (plan : PurePlan) (nodes : List Node) (cells : List Cell) (table : ValueTable) (position : ℕ → ℕ) : Type 0 where

@@ -15,8 +15,9 @@ use Rattle.ag_model.specs.ValueTable.{ValueTable, value_in, SetsValue}
 use Rattle.ag_model.specs.declared.attribution.Place.{Place}
 use Rattle.ag_model.specs.declared.attribution.Place.TheVariants.{Own, Child}
 use Rattle.ag_visits.specs.declared.walk.Walk.{Walk}
-use Rattle.ag_visits.specs.Visits.{State, IsSound, Moves, Turn}
-use Rattle.ag_visits.specs.OfTree.{tree_of, val_of, steps_at, IsWide, AreTyped, pure_values, env_of}
+use Rattle.ag_visits.specs.within.Visits.{State, IsSound, Moves, Turn}
+use Rattle.ag_visits.specs.Promise.{pure_values}
+use Rattle.ag_visits.specs.within.OfTree.{tree_of, val_of, steps_at, IsWide, AreTyped, env_of}
 
 -- a node's place in the steps of its type
 abbrev pub position_of : Walk → ℕ → ℕ
