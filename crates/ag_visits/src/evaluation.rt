@@ -121,14 +121,19 @@ pub(crate) fn evaluate(
     requires equation { e < length (equations_of (grammar_of types.now a.now) (node_at tree.now node).ty) }
     requires fields { length (node_at tree.now node).fields
         ≡ length (field_types (type_at types.now.types (node_at tree.now node).ty).items) }
-    requires uses { (q : PureEquation) (u : _) → IsEquation (grammar_of types.now a.now) (node_at tree.now node).ty e q
+    requires uses { (q : PureEquation) (u : _)
+        → IsEquation (grammar_of types.now a.now) (node_at tree.now node).ty e q
         → Contains q.uses u → IsThere tree.now values.old node u }
-    requires target { (q : PureEquation) → IsEquation (grammar_of types.now a.now) (node_at tree.now node).ty e q
+    requires target { (q : PureEquation)
+        → IsEquation (grammar_of types.now a.now) (node_at tree.now node).ty e q
         → IsThere tree.now values.old node q.target }
-    requires ready { (q : PureEquation) → IsEquation (grammar_of types.now a.now) (node_at tree.now node).ty e q
+    requires ready { (q : PureEquation)
+        → IsEquation (grammar_of types.now a.now) (node_at tree.now node).ty e q
         → Ready (cells_of cells.old.units) (env_of tree.now values.old node q.uses)
-        (expression_at (expressions_of texts.now.source.now texts.now.literals.now a.now) (node_at tree.now node).ty e) }
-    ensures ok { OnOk result (Evaluates texts.now.source.now texts.now.literals.now (grammar_of types.now a.now)
+        (expression_at (expressions_of texts.now.source.now texts.now.literals.now a.now)
+        (node_at tree.now node).ty e) }
+    ensures ok { OnOk result (Evaluates texts.now.source.now texts.now.literals.now
+        (grammar_of types.now a.now)
         (expressions_of texts.now.source.now texts.now.literals.now a.now) tree.now node e
         (cells_of cells.old.units) (cells_of cells.new.units) values.old values.new) }
     ensures kept { KeepsCells cells.old cells.new }
