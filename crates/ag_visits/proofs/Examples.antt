@@ -1,13 +1,13 @@
 -- What `attribute` needs and gives, tried where the nearest wrong readings differ.
-use Rattle.std.proofs.Common.{◌≡◌, ℕ, zero, suc, ◌<◌, Bool, true, false, List, [], ◌∷◌, Some, None, refl, sym, ◌∙◌, ap, subst, arith}
+use Rattle.std.proofs.Common.{◌≡◌, ℕ, zero, suc, ◌<◌, true, false, List, [], ◌∷◌, Some, None, refl, ap, arith}
 use Rattle.std.specs.Prelude.{pos, slice_get}
 use Rattle.std.proofs.lemmas.Option.{slice_get_within, same_Some}
 use Rattle.value_store.specs.declared.value.Value.TheVariants as value
 use Rattle.value_store.specs.declared.value.ValType.TheVariants as ty
 use Rattle.expr_lang.specs.Expression.{Expression, number}
-use Rattle.expr_lang.specs.PureValues.{PureValue, int, int_in}
+use Rattle.expr_lang.specs.PureValues.{int, int_in}
 use Rattle.tree_store.specs.Forest.{Node, IsChild, OnlyRoot, IsRoot}
-use Rattle.ag_model.specs.Attribution.{AttributeGrammar, PureEquation}
+use Rattle.ag_model.specs.Attribution.{AttributeGrammar}
 use Rattle.ag_model.specs.Solution.{Solves, by_itself, type_family}
 use Rattle.ag_model.specs.ValueTable.{ValueTable}
 use Rattle.ag_model.specs.declared.attribution.Attribute.{Attribute}

@@ -1,5 +1,5 @@
 -- At the end of the visits: the values solve, they are the only ones, and each instance was evaluated once.
-use Rattle.std.proofs.Common.{◌≡◌, ℕ, suc, ◌+◌, ◌-◌, ◌<◌, ◌≤◌, false, List, [], ◌∷◌, length, map, refl, sym, ◌∙◌, subst, ap, arith, pos}
+use Rattle.std.proofs.Common.{◌≡◌, ℕ, suc, ◌+◌, ◌-◌, ◌<◌, ◌≤◌, List, [], ◌∷◌, length, map, refl, sym, ◌∙◌, subst, ap, arith, pos}
 use Rattle.value_store.specs.Cells.{Cell}
 use Rattle.value_store.specs.declared.value.ValType.TheVariants as ty
 use Rattle.expr_lang.specs.Evaluated.{Keeps}

@@ -1,5 +1,5 @@
 // The values of all attributes of a tree, and the law that there is one solution.
-ghost use Rattle.std.specs.Prelude.{◌≡◌, ◌+◌, IfOk, OnOk};
+ghost use Rattle.std.specs.Prelude.{◌≡◌, ℕ, ◌+◌, IfOk, OnOk};
 ghost use Rattle.value_store.specs.Cells.{cells_of};
 ghost use Rattle.expr_lang.specs.Evaluated.{KeepsCells};
 ghost use Rattle.tree_store.specs.Conforms.{Conforms};
@@ -8,6 +8,8 @@ ghost use Rattle.ag_model.specs.Plans.{PlanFits};
 ghost use Rattle.ag_model.specs.Solution.{expressions_of};
 ghost use Rattle.ag_model.specs.Typed.{IsAttributionOf};
 ghost use Rattle.ag_visits.specs.Promise.{HasRoot, AreValues, HasOneSolution, instances};
+ghost use Rattle.ag_visits.specs.within.OfTree.{tree_of, val_of, kinds_at, sets_at, steps_at, IsWide};
+ghost use Rattle.ag_visits.specs.within.WholeVisits.{AreWhole};
 
 use crate::turns::turn;
 use crate::walk::{begin, widest};
@@ -64,6 +66,24 @@ pub fn one_solution(types: &Types, a: &Attribution, plan: &Plan, tree: &Tree, te
     ensures { HasOneSolution texts.now.source.now texts.now.literals.now
         (grammar_of types.now a.now)
         (expressions_of texts.now.source.now texts.now.literals.now a.now) tree.now }
+{
+    let _count = tree.len();
+}
+
+/// Law: by a plan that fits, the visits to such a tree end; each node is visited as often as its
+/// family's number, and each attribute of each node is evaluated once, after all that its equation
+/// uses.
+pub fn visits_of_a_plan(types: &Types, a: &Attribution, plan: &Plan, tree: &Tree, texts: &Texts)
+    requires attribution { IsAttributionOf texts.now.source.now texts.now.literals.now types.now a.now }
+    requires fits { PlanFits (grammar_of types.now a.now) plan.now }
+    requires conforms { Conforms types.now tree.now }
+    requires root { HasRoot (grammar_of types.now a.now) tree.now }
+    ensures { (width : ℕ) → IsWide (grammar_of types.now a.now) width
+        → AreWhole (val_of texts.now.source.now texts.now.literals.now
+        (expressions_of texts.now.source.now texts.now.literals.now a.now) tree.now)
+        (tree_of (grammar_of types.now a.now) width tree.now)
+        (kinds_at (grammar_of types.now a.now) tree.now)
+        (sets_at (grammar_of types.now a.now) plan.now tree.now) (steps_at plan.now tree.now) }
 {
     let _count = tree.len();
 }
