@@ -1,0 +1,3 @@
+pub mod FitsByPlace
+pub mod StepFits
+pub mod TypePlans
