@@ -2,14 +2,13 @@
 ghost use Rattle.std.specs.Prelude.{◌≡◌, ℕ, ◌<◌, ◌≤◌, ◌↔◌, List, [], length, map, IsTrue, Some, slice_get, slice_index_or, Contains};
 ghost use Rattle.ag_model.specs.Attribution.{kinds_in};
 ghost use Rattle.ag_model.specs.Parts.{is_odd};
-ghost use Rattle.ag_model.specs.Plans.{SetsFit};
+ghost use Rattle.ag_model.specs.Plans.{SetsFit, lists};
 ghost use Rattle.ag_model.specs.within.FitsByPlace.{PlaceFits, PartFits, IsInSome};
-ghost use Rattle.ag_model.specs.within.StepFits.{lists};
 
 use crate::attribution::Attribute;
 
 /// Whether the number is in the part.
-pub(crate) fn is_in(part: &[u32], a: usize) -> bool
+pub fn is_in(part: &[u32], a: usize) -> bool
     ensures { IsTrue result ↔ Contains part.now a }
 {
     for b in part {

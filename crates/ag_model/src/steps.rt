@@ -1,8 +1,8 @@
 // Single steps of a plan: what they evaluate, visit and give.
 ghost use Rattle.std.specs.Prelude.{◌≡◌, ℕ, ◌+◌, ◌-◌, ◌*◌, ◌<◌, ◌≤◌, ◌^◌, ◌↔◌, ◌⊎◌, [], length, map, IsTrue, Some, slice_get, slice_index_or, Contains};
 ghost use Rattle.ag_model.specs.Attribution.{equation_of};
-ghost use Rattle.ag_model.specs.Plans.{counted, one_if, is_leave, is_visit, visit_count, InSet, TakesIn, Gives, Evaluates, EvaluatedBefore};
-ghost use Rattle.ag_model.specs.within.StepFits.{lists, place_in};
+ghost use Rattle.ag_model.specs.Plans.{counted, one_if, is_leave, is_visit, visit_count, InSet, TakesIn, Gives, Evaluates, EvaluatedBefore, lists};
+ghost use Rattle.ag_model.specs.within.StepFits.{place_in};
 ghost use Rattle.ag_model.specs.declared.attribution.Place.TheVariants.{Own, Child};
 ghost use Rattle.ag_model.specs.declared.plan.PlanStep.TheVariants.{Evaluate, Visit, Leave};
 
@@ -11,7 +11,7 @@ use crate::plan::PlanStep;
 use crate::sets::{is_in, set_at};
 
 /// Whether the places are the same.
-fn is_same(u: Place, w: Place) -> bool
+pub fn is_same(u: Place, w: Place) -> bool
     ensures { IsTrue result ↔ (u ≡ w) }
 {
     match u {

@@ -1,16 +1,11 @@
 -- Whether a plan fits, step by step.
-use Rattle.std.specs.Prelude.{◌≡◌, ℕ, ◌+◌, ◌-◌, ◌<◌, List, Vec, map, length, Option, Some, None, slice_get, Contains}
-use Rattle.std.specs.Global.{Global}
+use Rattle.std.specs.Prelude.{◌≡◌, ℕ, ◌+◌, ◌-◌, ◌<◌, List, length, Option, Some, None, slice_get, Contains}
 use Rattle.ag_model.specs.Attribution.{PureEquation}
 use Rattle.ag_model.specs.Plans.{counted, is_leave, is_visit, visit_count, TakesIn, Gives, AtHand, EvaluatedBefore}
 use Rattle.ag_model.specs.declared.attribution.Place.{Place}
 use Rattle.ag_model.specs.declared.attribution.Place.TheVariants.{Own, Child}
 use Rattle.ag_model.specs.declared.plan.PlanStep.{PlanStep}
 use Rattle.ag_model.specs.declared.plan.PlanStep.TheVariants.{Evaluate, Visit, Leave}
-
--- lists of numbers without their vectors
-abbrev pub lists : List (Vec ℕ Global) → List (List ℕ)
-lists parts = map (λ part. part.items) parts
 
 -- the attribute's place: of the node itself, or of the child of this number
 abbrev pub place_in : Option ℕ → ℕ → Place

@@ -1,8 +1,7 @@
 -- Family by family.
 use Rattle.std.proofs.Common.{◌↔◌, IsTrue, subst}
 use Rattle.ag_model.specs.Attribution.{grammar_of, kinds_of, kinds_in}
-use Rattle.ag_model.specs.Plans.{SetsFit, sets_of}
-use Rattle.ag_model.specs.within.StepFits.{lists}
+use Rattle.ag_model.specs.Plans.{SetsFit, sets_of, lists}
 use Rattle.ag_model.proofs.Tries.{all_more}
 use Rattle.ag_model.proofs.fits.all_sets_fit.Goals as goal
 

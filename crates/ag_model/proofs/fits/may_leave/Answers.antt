@@ -1,7 +1,7 @@
 -- The visit ends where all that it gives was evaluated.
 use Rattle.std.proofs.Common.{map}
 use Rattle.ag_model.specs.Attribution.{equation_of}
-use Rattle.ag_model.specs.within.StepFits.{lists}
+use Rattle.ag_model.specs.Plans.{lists}
 use Rattle.ag_model.specs.within.TypePlans.{own_sets, own_equations, own_steps}
 use Rattle.ag_model.proofs.FitsByStep.{leaves_when}
 use Rattle.ag_model.proofs.fits.may_leave.Goals as goal

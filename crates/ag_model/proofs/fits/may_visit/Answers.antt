@@ -1,7 +1,7 @@
 -- The child is visited where all that the visit takes in was evaluated.
 use Rattle.std.proofs.Common.{map, arith}
 use Rattle.ag_model.specs.Attribution.{equation_of}
-use Rattle.ag_model.specs.within.StepFits.{lists}
+use Rattle.ag_model.specs.Plans.{lists}
 use Rattle.ag_model.specs.within.TypePlans.{own_equations, own_steps, below, child_total}
 use Rattle.ag_model.proofs.FitsByStep.{visits_when}
 use Rattle.ag_model.proofs.fits.may_visit.Goals as goal

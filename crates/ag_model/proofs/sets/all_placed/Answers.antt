@@ -1,7 +1,7 @@
 -- Attribute by attribute.
 use Rattle.std.proofs.Common.{◌↔◌, IsTrue, length, sym, subst}
 use Rattle.std.proofs.lemmas.List.{length-map}
-use Rattle.ag_model.specs.within.StepFits.{lists}
+use Rattle.ag_model.specs.Plans.{lists}
 use Rattle.ag_model.specs.within.FitsByPlace.{IsInSome}
 use Rattle.ag_model.proofs.Tries.{all_more, all_all, one_lacks}
 use Rattle.ag_model.proofs.sets.all_placed.Goals as goal

@@ -1,6 +1,6 @@
 -- Each attribute so far is in some set.
 use Rattle.std.proofs.Common.{ℕ, ◌<◌, length}
-use Rattle.ag_model.specs.within.StepFits.{lists}
+use Rattle.ag_model.specs.Plans.{lists}
 use Rattle.ag_model.specs.within.FitsByPlace.{IsInSome}
 use Rattle.ag_model.proofs.sets.all_placed.Given as goal
 

@@ -1,7 +1,7 @@
 -- Set by set.
 use Rattle.std.proofs.Common.{◌↔◌, IsTrue, [], subst}
 use Rattle.std.specs.Prelude.{slice_index_or, Contains}
-use Rattle.ag_model.specs.within.StepFits.{lists}
+use Rattle.ag_model.specs.Plans.{lists}
 use Rattle.ag_model.proofs.Tries.{none_more, none_all}
 use Rattle.ag_model.proofs.sets.is_in_some.Goals as goal
 

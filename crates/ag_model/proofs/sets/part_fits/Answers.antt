@@ -1,6 +1,6 @@
 -- Place by place.
 use Rattle.ag_model.specs.Attribution.{kinds_in}
-use Rattle.ag_model.specs.within.StepFits.{lists}
+use Rattle.ag_model.specs.Plans.{lists}
 use Rattle.ag_model.proofs.SetsByPlace.{one_more_place, all_places}
 use Rattle.ag_model.proofs.sets.part_fits.Goals as goal
 

@@ -2,7 +2,7 @@
 use Rattle.std.proofs.Common.{◌<◌, ◌≤◌, length, sym, subst}
 use Rattle.std.proofs.lemmas.List.{length-map}
 use Rattle.ag_model.specs.Attribution.{kinds_in}
-use Rattle.ag_model.specs.within.StepFits.{lists}
+use Rattle.ag_model.specs.Plans.{lists}
 use Rattle.ag_model.specs.within.FitsByPlace.{PartFits}
 use Rattle.ag_model.proofs.Tries.{all_more, all_all, one_lacks}
 use Rattle.ag_model.proofs.sets.parts_fit.Goals as goal

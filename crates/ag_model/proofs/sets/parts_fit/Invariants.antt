@@ -1,6 +1,6 @@
 -- Each set so far fits.
 use Rattle.std.proofs.Common.{ℕ, ◌<◌}
-use Rattle.ag_model.specs.within.StepFits.{lists}
+use Rattle.ag_model.specs.Plans.{lists}
 use Rattle.ag_model.specs.Attribution.{kinds_in}
 use Rattle.ag_model.specs.within.FitsByPlace.{PartFits}
 use Rattle.ag_model.proofs.sets.parts_fit.Given as goal

@@ -2,8 +2,7 @@
 use Rattle.std.proofs.Common.{arith}
 use Rattle.std.proofs.lemmas.List.{length-map}
 use Rattle.ag_model.specs.Attribution.{kinds_in}
-use Rattle.ag_model.specs.within.StepFits.{lists}
-use Rattle.ag_model.specs.Plans.{SetsFit}
+use Rattle.ag_model.specs.Plans.{SetsFit, lists}
 use Rattle.ag_model.proofs.SetsByPlace.{by_place, of_place}
 use Rattle.ag_model.proofs.Tries.{first_fails, both_hold}
 use Rattle.ag_model.proofs.sets.sets_fit.Goals as goal

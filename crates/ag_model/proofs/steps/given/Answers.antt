@@ -1,6 +1,6 @@
 -- The set is that of the visit.
 use Rattle.std.proofs.Common.{arith}
-use Rattle.ag_model.specs.within.StepFits.{lists}
+use Rattle.ag_model.specs.Plans.{lists}
 use Rattle.ag_model.proofs.FitsByStep.{given_is}
 use Rattle.ag_model.proofs.steps.given.Goals as goal
 

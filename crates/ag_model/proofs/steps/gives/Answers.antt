@@ -1,6 +1,6 @@
 -- A visit to the child is this one alone.
 use Rattle.ag_model.proofs.FitsByStep.{gives_visit}
-use Rattle.ag_model.specs.within.StepFits.{lists}
+use Rattle.ag_model.specs.Plans.{lists}
 use Rattle.ag_model.proofs.steps.gives.Goals as goal
 
 pub returns-then-child-c : goal.returns-then-child-c

@@ -1,8 +1,7 @@
 -- No visit so far gives the attribute.
 use Rattle.std.proofs.Common.{◌≡◌, ℕ, ◌<◌, Some}
 use Rattle.std.specs.Prelude.{slice_get}
-use Rattle.ag_model.specs.within.StepFits.{lists}
-use Rattle.ag_model.specs.Plans.{Gives}
+use Rattle.ag_model.specs.Plans.{Gives, lists}
 use Rattle.ag_model.specs.declared.plan.PlanStep.TheVariants.{Visit}
 use Rattle.ag_model.proofs.steps.was_given.Given as goal
 

@@ -1,7 +1,6 @@
 -- Visit by visit.
 use Rattle.std.proofs.Common.{◌+◌, false, true}
-use Rattle.ag_model.specs.Plans.{TakesIn}
-use Rattle.ag_model.specs.within.StepFits.{lists}
+use Rattle.ag_model.specs.Plans.{TakesIn, lists}
 use Rattle.ag_model.proofs.Tries.{none_more, none_all, one_has, by_contents, most_of}
 use Rattle.ag_model.proofs.steps.was_taken_in.Goals as goal
 

@@ -1,7 +1,6 @@
 -- No visit so far takes the attribute in.
 use Rattle.std.proofs.Common.{ℕ, ◌<◌}
-use Rattle.ag_model.specs.within.StepFits.{lists}
-use Rattle.ag_model.specs.Plans.{TakesIn}
+use Rattle.ag_model.specs.Plans.{TakesIn, lists}
 use Rattle.ag_model.proofs.steps.was_taken_in.Given as goal
 
 abbrev pub invariant-loop-v : goal.invariant-loop-v

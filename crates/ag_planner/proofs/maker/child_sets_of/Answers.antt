@@ -3,8 +3,7 @@ use Rattle.std.proofs.Common.{◌≡◌, ap, sym, ◌∙◌, arith, length, Vec,
 use Rattle.std.specs.Global.{Global}
 use Rattle.std.proofs.lemmas.List.{length-map}
 use Rattle.ag_model.proofs.TypesInRange.{child_there}
-use Rattle.ag_model.specs.Plans.{sets_at, sets_of}
-use Rattle.ag_planner.specs.within.Sets.{lists}
+use Rattle.ag_model.specs.Plans.{sets_at, sets_of, lists}
 use Rattle.ag_planner.proofs.Reading.{sets_read}
 use Rattle.ag_planner.specs.within.Tasks.{below, g_of, set_plan}
 use Rattle.ag_planner.proofs.maker.child_sets_of.Goals as goal

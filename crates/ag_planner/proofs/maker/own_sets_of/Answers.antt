@@ -5,7 +5,8 @@ use Rattle.std.proofs.lemmas.List.{length-map}
 use Rattle.ag_model.proofs.TypesInRange.{family_there}
 use Rattle.ag_model.specs.Attribution.{family_of}
 use Rattle.std.specs.Prelude.{slice_index_or}
-use Rattle.ag_planner.specs.within.Sets.{lists, pure_sets}
+use Rattle.ag_model.specs.Plans.{lists}
+use Rattle.ag_planner.specs.within.Sets.{pure_sets}
 use Rattle.ag_planner.proofs.Reading.{sets_read}
 use Rattle.ag_planner.specs.within.Tasks.{own_sets, g_of}
 use Rattle.ag_planner.proofs.maker.own_sets_of.Goals as goal
