@@ -1,0 +1,6 @@
+mod LineReadings
+mod LineFaults
+mod OneAgSaying
+mod Examples
+mod Crowds
+mod ItemNames

@@ -1,0 +1,3 @@
+pub mod AgSeen
+pub mod Counts
+pub mod LineHeads
