@@ -14,6 +14,7 @@ use Rattle.tree_store.specs.Forest.{Node, node_at, children_at, IsChild, IsFores
 use Rattle.tree_store.proofs.NodeAdded.{nat_lt_tells, child_of_more, child_kept, child_new}
 use Rattle.tree_store.specs.Fitting.{as_field, FieldsFit, no_field_fits, and_field_fits, TreeFits, TreesFit, no_tree_fits, and_tree_fits}
 use Rattle.ast_types.specs.FitTypes.{AreTypes}
+use Rattle.ast_types.proofs.FitItems.{fit_items}
 use Rattle.tree_build.specs.within.Laying.{joined, trees_count, Stand, none_stand, and_stands, Due, to_make, UnderOne, AreNodesOf, Laying}
 use Rattle.tree_build.specs.declared.laying.Task.{Task}
 use Rattle.tree_build.specs.declared.laying.Task.TheVariants as task
