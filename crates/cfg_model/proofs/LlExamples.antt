@@ -1,5 +1,5 @@
 -- LL(1) tables and the conflict that is reported, each on a case where the nearest wrong reading differs.
-use Rattle.std.proofs.Common.{◌≡◌, ℕ, ◌≤◌, ◌⊎◌, inl, inr, List, [], ◌∷◌, ◌++◌, refl, sym, subst, true, Option, None, length, arith}
+use Rattle.std.proofs.Common.{◌≡◌, ℕ, ◌⊎◌, inl, inr, List, [], ◌∷◌, ◌++◌, refl, sym, subst, Option, None, arith}
 use Rattle.cfg_model.specs.declared.symbol.Sym.{Sym}
 use Rattle.cfg_model.specs.declared.symbol.Sym.TheVariants.{T, N}
 use Rattle.cfg_model.specs.Cfg.{Cfg, IsRule}
@@ -7,9 +7,9 @@ use Rattle.cfg_model.specs.Steps.{step, Steps, none, more}
 use Rattle.cfg_model.specs.Derivation.{Forest, yield, Derive, token}
 use Rattle.cfg_model.specs.Sets.{Nullable, Reachable}
 use Rattle.cfg_model.specs.LlConflicts.{IsFor, Predicts, LlConflict, LlReport}
-use Rattle.cfg_model.specs.LlTables.{IsLl, IsPrediction, Falling, Falls, IsFalling, IsLlTable}
+use Rattle.cfg_model.specs.LlTables.{IsLl, IsPrediction, IsLlTable}
 use Rattle.cfg_model.proofs.Examples.{rights, for_end, hides, left, apart, Clean, clean_there, clean_after, clean_rule}
-use Rattle.cfg_model.proofs.GrammarExamples.{as_rule, by_rules, lists, longer}
+use Rattle.cfg_model.proofs.GrammarExamples.{as_rule, by_rules}
 use Rattle.cfg_model.proofs.Forests.{gives_of_steps}
 use Rattle.cfg_model.proofs.FollowSets.{first_cut, only_terminal}
 
@@ -74,32 +74,9 @@ first_met_is_not is = let most = is.first 1 4 0 on_x in omega (arith, most)
 no_refusal : IsPrediction rights 1 1 None → ⊥
 no_refusal none_is = none_is 3 for_end
 
--- left recursion is a fault, whatever conflicts there are; nor are there numbers that fall
+-- left recursion is a fault, whatever conflicts there are
 left_is_no_ll : IsLl hides → ⊥
 left_is_no_ll is = is.not_left_recursive 0 ([], [], none) left
-
-none_fall : (m : Falling) → IsFalling lists m → ⊥
-none_fall m is = let falls = (is.falls 1 0 (N 0 ∷ T 0 ∷ []) longer ([], [], none)).0 in omega (arith, falls)
-
--- in L = X M, M = X M, M = no numbers have to fall, since each M stands behind X
-behind_x : (r n : ℕ) (w : List Sym) → IsRule rights r n w → (w ≡ T 0 ∷ N 1 ∷ []) ⊎ (w ≡ [])
-behind_x r n w is = by_rules rights (λ r n w. (w ≡ T 0 ∷ N 1 ∷ []) ⊎ (w ≡ [])) (inl refl, (inl refl, (inr refl, tt))) r n w is
-
-abbrev level : Falling
-level = record { rank = λ n. 0; vanishes = λ n. true; longest = 2 }
-
-level_falls : IsFalling rights level
-level_falls = record {
-  falls = λ r n w is reach. elim (behind_x r n w is) [
-    | inl same ↦ subst (λ u. Falls level 0 u) (sym same) tt
-    | inr same ↦ subst (λ u. Falls level 0 u) (sym same) tt
-  ];
-  closed = λ r n w is vanish. refl;
-  fits = λ r n w is. elim (behind_x r n w is) [
-    | inl same ↦ subst (λ (u : List Sym). length u ≤ 2) (sym same) (omega arith)
-    | inr same ↦ subst (λ (u : List Sym). length u ≤ 2) (sym same) (omega arith)
-  ];
-}
 
 -- in S = X, U = S Y nothing is asked of the answers for U, which is unreachable
 clean_forms : (v : List Sym) → Steps apart (N 0 ∷ []) v → Clean v
@@ -113,10 +90,9 @@ clean_forms _ (more _ _ steps (step r n w x y is)) =
 s_alone : (n : ℕ) → Reachable apart n → n ≡ 0
 s_alone n (x, y, steps) = (clean_there x y n (clean_forms (x ++ (N n ∷ y)) steps)).0
 
-any_for_u : (m : Falling) (a b : ℕ → ℕ → Option ℕ) → ((t : ℕ) → a 0 t ≡ b 0 t) → IsLlTable apart m a → IsLlTable apart m b
-any_for_u m a b same is = record {
+any_for_u : (a b : ℕ → ℕ → Option ℕ) → ((t : ℕ) → a 0 t ≡ b 0 t) → IsLlTable apart a → IsLlTable apart b
+any_for_u a b same is = record {
   accepted = is.accepted;
-  falling = is.falling;
   predicts = λ n t reach under.
       (let zero_is = s_alone n reach in
       let here = is.predicts n t reach under in

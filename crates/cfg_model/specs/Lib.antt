@@ -1,9 +1,9 @@
 pub mod Cfg
 pub mod Cores
+pub mod CoreTables
 pub mod Derivation
 pub mod Items
 pub mod LalrConflicts
-pub mod LeftRanks
 pub mod LlConflicts
 pub mod LlTables
 pub mod LrTables

@@ -1,9 +1,7 @@
--- LL tables: the grammars that have one, what it answers, and why a parse by it ends.
-use Rattle.std.specs.Prelude.{◌≡◌, ℕ, ◌<◌, ◌≤◌, Bool, IsTrue, List, [], ◌∷◌, Option, MatchOption, length}
+-- LL tables: the grammars that have one, and what it answers.
+use Rattle.std.specs.Prelude.{◌≡◌, ℕ, ◌≤◌, Option, MatchOption}
 use Rattle.ck_base.specs.Found.{HasNo}
-use Rattle.cfg_model.specs.declared.symbol.Sym.{Sym}
-use Rattle.cfg_model.specs.declared.symbol.Sym.TheVariants.{T, N}
-use Rattle.cfg_model.specs.Cfg.{Cfg, IsRule, IsGrammar}
+use Rattle.cfg_model.specs.Cfg.{Cfg, IsGrammar}
 use Rattle.cfg_model.specs.Sets.{Reachable, AllProductive}
 use Rattle.cfg_model.specs.Searches.{LeftRecursive}
 use Rattle.cfg_model.specs.LlConflicts.{Predicts, LlConflict}
@@ -24,34 +22,7 @@ abbrev pub IsPrediction : Cfg → ℕ → ℕ → Option ℕ → Type 0
 IsPrediction g n t answer = MatchOption answer (HasNo (Predicts g n t))
     (λ r. Predicts g n t r × ((q : ℕ) → Predicts g n t q → q ≡ r))
 
--- numbers by which a parse ends that draws no token: a rank for each nonterminal, which of them vanish,
--- and the length of the longest right side
-pub record Falling : Type 0 where
-  pub rank : ℕ → ℕ
-  pub vanishes : ℕ → Bool
-  pub longest : ℕ
-
--- the nonterminals of the list up to the first symbol that doesn't vanish have smaller ranks
-abbrev pub Falls : Falling → ℕ → List Sym → Type 0
-Falls m top [] = Unit {0}
-Falls m top (T t ∷ u) = Unit {0}
-Falls m top (N n ∷ u) = (m.rank n < top) × (IsTrue (m.vanishes n) → Falls m top u)
-
--- each symbol of the list vanishes
-abbrev pub AllVanish : Falling → List Sym → Type 0
-AllVanish m [] = Unit {0}
-AllVanish m (T t ∷ u) = ⊥
-AllVanish m (N n ∷ u) = IsTrue (m.vanishes n) × AllVanish m u
-
--- the numbers are right for the grammar: ranks fall from a left side to what can stand first in its
--- right side
-pub record IsFalling (g : Cfg) (m : Falling) : Type 0 where
-  pub falls : (r n : ℕ) (w : List Sym) → IsRule g r n w → Reachable g n → Falls m (m.rank n) w
-  pub closed : (r n : ℕ) (w : List Sym) → IsRule g r n w → AllVanish m w → IsTrue (m.vanishes n)
-  pub fits : (r n : ℕ) (w : List Sym) → IsRule g r n w → length w ≤ m.longest
-
 -- a table of the grammar: its answers for reachable nonterminals are the predictions
-pub record IsLlTable (g : Cfg) (m : Falling) (answer : ℕ → ℕ → Option ℕ) : Type 0 where
+pub record IsLlTable (g : Cfg) (answer : ℕ → ℕ → Option ℕ) : Type 0 where
   pub accepted : IsLl g
-  pub falling : IsFalling g m
   pub predicts : (n t : ℕ) → Reachable g n → t ≤ g.terminals → IsPrediction g n t (answer n t)

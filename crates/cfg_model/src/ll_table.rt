@@ -1,7 +1,6 @@
 // The trait of an LL(1) table: which rule a nonterminal is expanded by before a token.
 ghost use Rattle.std.specs.Prelude.{◌≡◌, ℕ, ◌<◌, ◌≤◌, List, Option, length};
 ghost use Rattle.cfg_model.specs.Cfg.{Cfg, IsRule};
-ghost use Rattle.cfg_model.specs.LlTables.{Falling};
 ghost use Rattle.cfg_model.specs.declared.symbol.Sym.{Sym};
 
 use crate::symbol::Sym;
@@ -10,8 +9,6 @@ use crate::symbol::Sym;
 pub trait LlTable {
     /// The grammar that the table is of.
     ghost grammar: { Self → Cfg };
-    /// Numbers by which a parse ends.
-    ghost falling: { Self → Falling };
     /// The rule that the table predicts for a nonterminal on a terminal.
     ghost answer: { Self → ℕ → ℕ → Option ℕ };
 

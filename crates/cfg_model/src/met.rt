@@ -32,7 +32,7 @@ pub fn left_recursive(alloc: Global, g: &Grammar) -> Result<Option<u32>, NoMemor
 }
 
 /// For each nonterminal those that can be met first from it.
-pub(crate) fn met_first(alloc: Global, g: &Grammar, null: &Bits) -> Result<Vec<Bits>, NoMemory>
+fn met_first(alloc: Global, g: &Grammar, null: &Bits) -> Result<Vec<Bits>, NoMemory>
     requires grammar { IsGrammar g.now }
     requires null { AreMakers false g.now null.now }
     ensures { IfOk result (λ rows. AreMet g.now null.now rows.items) }

@@ -49,11 +49,11 @@ some_parser p g is of = subst (IsParserOf (Some g)) is of
 
 -- as the drivers ask for it
 pub is_ll_table : (g : Cfg) (table : PlainLl) → ll.IsTableOf g table
-    → IsLlTable (ll_table.grammar_of table) (ll_table.numbers_of table) (ll_table.answer_of table)
-is_ll_table g table is = subst (λ x. IsLlTable x (ll_table.numbers_of table) (ll_table.answer_of table)) (sym is.of_grammar) is.is_table
+    → IsLlTable (ll_table.grammar_of table) (ll_table.answer_of table)
+is_ll_table g table is = subst (λ x. IsLlTable x (ll_table.answer_of table)) (sym is.of_grammar) is.is_table
 
 pub is_lr_table : (g : Cfg) (table : PlainLr) → lr.IsTableOf g table → IsLrTable (lr_table.grammar_of table) (lr_table.answers_of table)
-is_lr_table g table is = subst (λ x. IsLrTable x (lr_table.answers_of table)) (sym is.of_grammar) is.is_table
+is_lr_table g table is = subst (λ x. IsLrTable x (lr_table.answers_of table)) (sym is.of_grammar) is.of_cores.is_table
 
 module _ (rules : Rules) (tables : Tables) (scans : ScansBy rules tables) (source : List ℕ) (bytes : AreBytes source) (left : Left)
     (is : left ≡ record { tables = tables; source = source; state = 0; at = 0 }) where

@@ -5,7 +5,7 @@ use Rattle.cfg_model.specs.LlConflicts.{LlReport}
 use Rattle.cfg_model.specs.LlTables.{IsLl, NoneLeftRecursive, IsLlTable}
 use Rattle.cfg_model.specs.Searches.{IsLeast, IsUnproductive, LeftRecursive}
 use Rattle.cfg_model.specs.Sets.{AllProductive, Reachable}
-use Rattle.ell_tables.specs.Table.{answer_of, grammar_of, numbers_of}
+use Rattle.ell_tables.specs.Table.{answer_of, grammar_of}
 use Rattle.ell_tables.specs.declared.plain.PlainLl.{PlainLl}
 use Rattle.ell_tables.specs.declared.refusal.EllError.{EllError}
 use Rattle.ell_tables.specs.declared.refusal.EllError.TheVariants as refused
@@ -13,7 +13,7 @@ use Rattle.ell_tables.specs.declared.refusal.EllError.TheVariants as refused
 -- it is a table of this grammar
 pub record IsTableOf (g : Cfg) (table : PlainLl) : Type 0 where
   pub of_grammar : grammar_of table ≡ g
-  pub is_table : IsLlTable g (numbers_of table) (answer_of table)
+  pub is_table : IsLlTable g (answer_of table)
 
 -- the grammar has a table
 abbrev pub HasTable : Cfg → Type 0

@@ -1,8 +1,6 @@
 -- What an LL table with one cell for each nonterminal and each terminal says.
 use Rattle.std.specs.Prelude.{ℕ, zero, suc, ◌+◌, ◌*◌, List, Option, Some, None, slice_index}
 use Rattle.cfg_model.specs.Cfg.{Cfg}
-use Rattle.cfg_model.specs.LeftRanks.{falling_of}
-use Rattle.cfg_model.specs.LlTables.{Falling}
 use Rattle.ell_tables.specs.declared.plain.PlainLl.{PlainLl}
 
 -- the cell of a nonterminal and a terminal, END among them; 0 stands for no rule
@@ -17,10 +15,6 @@ as_rule (suc r) = Some (suc r)
 -- the grammar that the table is of
 abbrev pub grammar_of : PlainLl → Cfg
 grammar_of table = table.grammar
-
--- the numbers by which a parse ends
-abbrev pub numbers_of : PlainLl → Falling
-numbers_of table = falling_of table.ranks
 
 -- the rule to take for a nonterminal on a terminal
 abbrev pub answer_of : PlainLl → ℕ → ℕ → Option ℕ

@@ -1,13 +1,11 @@
 // What a plain LL(1) table answers.
-ghost use Rattle.ell_tables.specs.Table.{answer_of, grammar_of, numbers_of};
+ghost use Rattle.ell_tables.specs.Table.{answer_of, grammar_of};
 
 use crate::plain::PlainLl;
 use cfg_model::{LlTable, Sym};
 
 impl LlTable for PlainLl {
     ghost grammar = { grammar_of };
-
-    ghost falling = { numbers_of };
 
     ghost answer = { answer_of };
 

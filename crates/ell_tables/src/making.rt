@@ -13,7 +13,7 @@ use crate::fill::fill;
 use crate::plain::PlainLl;
 use crate::refusal::EllError;
 use cfg_model::{
-    Grammar, GrammarRule, add_first, copy_grammar, first, follow, left_recursive, nullable, ranks,
+    Grammar, GrammarRule, add_first, copy_grammar, first, follow, left_recursive, nullable,
     reachable, unproductive,
 };
 use ck_base::{Bits, NoMemory};
@@ -53,13 +53,8 @@ fn finish(alloc: Global, g: &Grammar, cells: Vec<u16>) -> Result<PlainLl, NoMemo
         → IsPrediction g.now n t (as_rule (cell g.now cells.items n t)) }
     ensures { IfOk result (IsTableOf g.now) }
 {
-    let ranks = ranks(alloc, g)?;
     let grammar = copy_grammar(alloc, g)?;
-    Ok(PlainLl {
-        grammar,
-        cells,
-        ranks,
-    })
+    Ok(PlainLl { grammar, cells })
 }
 
 /// For each rule the terminals that it is for; none where its left side can't be reached.

@@ -1,7 +1,7 @@
 // The plain LL(1) table: one cell for each nonterminal and token.
 ghost use Rattle.std.specs.Prelude.{◌≡◌, ◌+◌, ◌*◌, vec_len};
 
-use cfg_model::{Grammar, LeftRanks};
+use cfg_model::Grammar;
 
 /// The LL(1) table of a grammar, with one cell for each nonterminal and each terminal, END among them.
 #[derive(Drop)]
@@ -9,6 +9,5 @@ pub struct PlainLl {
     pub(crate) grammar: Grammar,
     /// A row of cells for each nonterminal. A cell has the rule to take, and 0 where there is none.
     pub(crate) cells: Vec<u16>,
-    pub(crate) ranks: LeftRanks,
     ghost count: { vec_len cells ≡ grammar.nonterminals * (grammar.terminals + 1) },
 }

@@ -9,7 +9,8 @@ use Rattle.cfg_model.specs.Valid.{Valid, start, closure, move}
 use Rattle.cfg_model.specs.LrTables.{IsLr}
 use Rattle.parse_driver.proofs.Vanishing.{by_rule}
 use Rattle.parse_driver.proofs.Spine.{Each, Distinct, tall, spine, left_in}
-use Rattle.parse_driver.proofs.Height.{longest, height_bound}
+use Rattle.parse_driver.specs.within.LlStack.{longest}
+use Rattle.parse_driver.proofs.Height.{height_bound}
 use Rattle.parse_driver.proofs.StackNumber.{trees, tipped, value, Small, power_one, grows, bounded, small_part, trees-tipped, tokens-tipped}
 
 -- what stands behind a dot stands in a list that the start symbol derives

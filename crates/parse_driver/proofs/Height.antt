@@ -10,13 +10,9 @@ use Rattle.cfg_model.specs.Searches.{HiddenLeft}
 use Rattle.cfg_model.specs.Valid.{Valid, start, closure, move}
 use Rattle.cfg_model.proofs.Around.{once_then}
 use Rattle.cfg_model.proofs.Forests.{beside, yield_beside, join, steps_then, steps_before}
+use Rattle.parse_driver.specs.within.LlStack.{longest}
 use Rattle.parse_driver.proofs.Vanishing.{by_rule, vanishes}
 use Rattle.parse_driver.proofs.Spine.{Each, each_map, Distinct, pigeon, left_in}
-
--- the greatest number of symbols in a right side, rule 0's among them
-pub longest : List Rule → ℕ
-longest [] = 1
-longest (r ∷ rs) = max (length r.right) (longest rs)
 
 pub longest_one : (rs : List Rule) → 1 ≤ longest rs
 unfolding longest
@@ -91,19 +87,25 @@ reach_on g r n front y ms (named a is (b, c, steps) each) =
     ap (λ z. b ++ z) (append_assoc front (N n ∷ y) c) ∙ sym (append_assoc b front (N n ∷ (y ++ c))) in
     (b ++ front, y ++ c, subst (λ z. Steps g (N g.start ∷ []) z) flat (more _ _ steps one))
 
+-- what derives the left side with something around it derives what the right side calls
+pub called_on : (g : Cfg) (r a n : ℕ) (front y x z : List Sym) (m : ℕ) → IsRule g r a (front ++ (N n ∷ y))
+    → StepsOnce g (N m ∷ []) (x ++ (N a ∷ z)) → StepsOnce g (N m ∷ []) ((x ++ front) ++ (N n ∷ (y ++ z)))
+called_on g r a n front y x z m is once =
+    let one = step r a (front ++ (N n ∷ y)) x z is in
+    let flat : x ++ ((front ++ (N n ∷ y)) ++ z) ≡ (x ++ front) ++ (N n ∷ (y ++ z)) =
+    ap (λ l. x ++ l) (append_assoc front (N n ∷ y) z) ∙ sym (append_assoc x front (N n ∷ (y ++ z))) in
+    subst (λ l. StepsOnce g (N m ∷ []) l) flat (once_then g _ _ _ once (more _ _ none one))
+
 -- who hides the left side hides what its right side calls, behind what vanishes
 pub hides_on : (g : Cfg) (r a n : ℕ) (front y : List Sym) (m : ℕ) → IsRule g r a (front ++ (N n ∷ y)) → Nullable g front
     → Hides g a m → Hides g n m
-hides_on g r a n front y m is gone (x, z, some, null, once) =
-    let one = step r a (front ++ (N n ∷ y)) x z is in
-    let flat : x ++ ((front ++ (N n ∷ y)) ++ z) ≡ (x ++ front) ++ (N n ∷ (y ++ z)) =
-    ap (λ l. x ++ l) (append_assoc front (N n ∷ y) z) ∙ sym (append_assoc x front (N n ∷ (y ++ z))) in (
-      x ++ front,
-      y ++ z,
-      not_nil-append x front some,
-      null-append g x front null gone,
-      subst (λ l. StepsOnce g (N m ∷ []) l) flat (once_then g _ _ _ once (more _ _ none one)),
-    )
+hides_on g r a n front y m is gone (x, z, some, null, once) = (
+  x ++ front,
+  y ++ z,
+  not_nil-append x front some,
+  null-append g x front null gone,
+  called_on g r a n front y x z m is once,
+)
 
 pub grown : (n t l k level : ℕ) → level ≤ suc n * t + k → k ≤ n → 1 ≤ l → suc level ≤ suc n * (t + l) + 0
 grown n t l k level few below some =

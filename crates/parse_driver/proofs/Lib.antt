@@ -13,7 +13,9 @@ pub mod LrReading
 pub mod LrStates
 pub mod LrTurn
 pub mod OneDerivation
+pub mod Opening
 pub mod OneForest
+pub mod OneParse
 pub mod Parsing
 pub mod Replay
 pub mod Spine

@@ -41,7 +41,7 @@ pub fn parse_ll<T: LlTable, K: Tokens>(
     table: &T,
     tokens: &mut K,
 ) -> Result<Vec<Step>, ParseError>
-    requires table { IsLlTable (T.grammar table.now) (T.falling table.now) (T.answer table.now) }
+    requires table { IsLlTable (T.grammar table.now) (T.answer table.now) }
     requires open { IsTrue (K.is_open tokens.old) }
     requires some { (all : List TokenRef) × (ending : Ending) × K.comes tokens.old all ending }
     requires few { (all : List TokenRef) (ending : Ending) → K.comes tokens.old all ending
@@ -101,7 +101,7 @@ fn expand<T: LlTable>(
     stack: &mut Vec<Entry>,
     steps: &mut Vec<Step>,
 ) -> Result<bool, NoMemory>
-    requires table { IsLlTable (T.grammar table.now) (T.falling table.now) (T.answer table.now) }
+    requires table { IsLlTable (T.grammar table.now) (T.answer table.now) }
     requires terminal { t ≤ (T.grammar table.now).terminals }
     requires reached { IsReached (T.grammar table.now) (entries stack.old) }
     ensures { IfOk result (λ more. Expands (T.grammar table.now) t
@@ -123,10 +123,10 @@ fn one_turn<T: LlTable>(
     stack: &mut Vec<Entry>,
     steps: &mut Vec<Step>,
 ) -> Result<Turn, NoMemory>
-    requires table { IsLlTable (T.grammar table.now) (T.falling table.now) (T.answer table.now) }
+    requires table { IsLlTable (T.grammar table.now) (T.answer table.now) }
     requires terminal { t ≤ (T.grammar table.now).terminals }
     requires reached { IsReached (T.grammar table.now) (entries stack.old) }
-    ensures { IfOk result (λ turn. Turns (T.grammar table.now) (T.falling table.now) t
+    ensures { IfOk result (λ turn. Turns (T.grammar table.now) t
         (entries stack.old) steps.old.items (entries stack.new) steps.new.items turn) }
 {
     let Some(top) = top_of(stack) else {

@@ -3,7 +3,7 @@ ghost use Rattle.std.specs.Prelude.{◌≡◌, ◌<◌, IsTrue, All};
 ghost use Rattle.cfg_model.specs.Cfg.{IsGrammar};
 ghost use Rattle.cfg_model.specs.LlTables.{IsLlTable};
 ghost use Rattle.ell_tables.specs.Promise.{IsTableOf};
-ghost use Rattle.ell_tables.specs.Table.{answer_of, grammar_of, numbers_of};
+ghost use Rattle.ell_tables.specs.Table.{answer_of, grammar_of};
 
 use crate::lines::{letter, push_line};
 use crate::parses::parsed;

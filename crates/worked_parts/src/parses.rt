@@ -1,7 +1,7 @@
 // Parses of lists of tokens in print.
 ghost use Rattle.std.specs.Prelude.{◌<◌, IsTrue, All};
 ghost use Rattle.cfg_model.specs.LlTables.{IsLlTable};
-ghost use Rattle.ell_tables.specs.Table.{answer_of, grammar_of, numbers_of};
+ghost use Rattle.ell_tables.specs.Table.{answer_of, grammar_of};
 
 use crate::lines::letter;
 use crate::written::{Written, symbol_of};
@@ -21,7 +21,7 @@ pub(crate) fn parsed(
     table: &PlainLl,
     text: &str,
 ) -> Result<String, NoMemory>
-    requires { IsLlTable (grammar_of table.now) (numbers_of table.now) (answer_of table.now) }
+    requires { IsLlTable (grammar_of table.now) (answer_of table.now) }
 {
     let mut tokens = Vec::new(alloc);
     let bytes = if text == EMPTY { "" } else { text };
@@ -65,7 +65,7 @@ fn parse(
     place: u32,
     is_bad: bool,
 ) -> Result<Vec<Step>, ParseError>
-    requires { IsLlTable (grammar_of table.now) (numbers_of table.now) (answer_of table.now) }
+    requires { IsLlTable (grammar_of table.now) (answer_of table.now) }
 {
     if tokens.len() > 1_000_000 || !are_below(tokens, table.terminals()) {
         return Err(ParseError::NoMemory);

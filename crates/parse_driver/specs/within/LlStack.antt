@@ -1,10 +1,10 @@
 -- What a stack of entries still derives, and the state of a parse between two turns.
-use Rattle.std.specs.Prelude.{◌≡◌, ℕ, ◌+◌, ◌^◌, ◌<◌, Bool, true, false, cond, List, [], ◌∷◌, ◌++◌, map, reverse, Vec, Option, Some, None}
+use Rattle.std.specs.Prelude.{◌≡◌, ℕ, suc, ◌+◌, ◌-◌, ◌^◌, ◌<◌, ◌≤◌, max, Bool, true, false, List, [], ◌∷◌, ◌++◌, map, reverse, length, Vec, Option, Some, None}
 use Rattle.cfg_model.specs.declared.symbol.Sym.{Sym}
 use Rattle.cfg_model.specs.declared.symbol.Sym.TheVariants.{T, N}
-use Rattle.cfg_model.specs.Cfg.{Cfg}
+use Rattle.cfg_model.specs.Cfg.{Cfg, Rule, IsRule}
+use Rattle.cfg_model.specs.Sets.{Reachable}
 use Rattle.cfg_model.specs.Steps.{Steps, word}
-use Rattle.cfg_model.specs.LlTables.{Falling}
 use Rattle.cfg_model.specs.Derivation.{Forest, empty, leaf, node, yield, Derive}
 use Rattle.parse_driver.specs.Stream.{terminal_of}
 use Rattle.parse_driver.specs.declared.ll.Entry.{Entry}
@@ -65,16 +65,52 @@ pub record Follows (g : Cfg) (t : ℕ) (read : List TokenRef) (stack : List Entr
 abbrev pub NoneAhead : Cfg → List TokenRef → ℕ → Type 0
 NoneAhead g read t = (ks : List TokenRef) (zs : List Step) → Ahead g.terminals t ks → Completes g (Find (N g.start) ∷ []) (read ++ ks) zs → ⊥
 
--- how many turns at most a nonterminal takes
-unfoldable pub weight : Falling → ℕ → ℕ
-weight m n = (m.longest + 2) ^ (m.rank n + 1)
+-- how many rules are open: they were taken, and aren't ended yet
+abbrev pub open_rules : List Entry → ℕ
+open_rules [] = 0
+open_rules (Done r ∷ stack) = suc (open_rules stack)
+open_rules (Find x ∷ stack) = open_rules stack
 
--- the entries on top, up to the first that can't vanish
-abbrev pub load : Falling → List Entry → ℕ
-load m [] = 0
-load m (Done r ∷ stack) = 1 + load m stack
-load m (Find (T t) ∷ stack) = 0
-load m (Find (N n) ∷ stack) = weight m n + cond (m.vanishes n) (load m stack) 0
+-- What was done since the entries were `rest`, without a token: rules were taken, each for the nonterminal
+-- that was on top then, and of a rule's right side nothing is gone but what vanishes. The names are these
+-- nonterminals, the last one first.
+pub data Opened (g : Cfg) (rest : List Entry) : List Entry → List ℕ → Type 0 where
+  nothing_opened : Opened g rest rest []
+  rule_opened : (r n : ℕ) (v u : List Sym) (below stack : List Entry) (names : List ℕ) → IsRule g r n (v ++ u)
+      → Steps g v [] → Reachable g n → Opened g rest (Find (N n) ∷ below) names
+      → stack ≡ finding u ++ (Done r ∷ below) → Opened g rest stack (n ∷ names)
+
+-- since some entries with at most so many open rules nothing else was done
+pub record OpenedSince (g : Cfg) (most : ℕ) (stack : List Entry) : Type 0 where
+  pub rest : List Entry
+  pub names : List ℕ
+  pub opened : Opened g rest stack names
+  pub few : open_rules rest ≤ most
+
+-- the greatest number of symbols in a right side, rule 0's among them
+unfoldable pub longest : List Rule → ℕ
+longest [] = 1
+longest (r ∷ rs) = max (length r.right) (longest rs)
+
+-- how many turns at most a nonterminal takes above which so many more rules are open at most
+unfoldable pub weight : ℕ → ℕ → ℕ
+weight long more = (long + 2) ^ more
+
+-- how many turns the entries take at most, where no right side is longer and never more rules are open
+abbrev pub load : ℕ → ℕ → List Entry → ℕ
+load long most [] = 0
+load long most (Done r ∷ stack) = 1 + load long most stack
+load long most (Find (T t) ∷ stack) = load long most stack
+load long most (Find (N n) ∷ stack) = weight long (most - open_rules stack) + load long most stack
+
+-- where so many rules were open, as many are open at most before a token is drawn
+abbrev pub load_since : Cfg → ℕ → List Entry → ℕ
+load_since g most stack = load (longest g.rules) (most + g.nonterminals) stack
+
+-- the turns before a token end: with each one less is left to do
+abbrev pub Nears : Cfg → List Entry → List Entry → Type 0
+Nears g old new = (most : ℕ) → OpenedSince g most old
+    → OpenedSince g most new × (load_since g most new < load_since g most old)
 
 -- the entries of a list whose last one is on top
 abbrev pub entries : {A : Type 0} → Vec Entry A → List Entry
@@ -103,10 +139,10 @@ IsReady (Find (N n) ∷ stack) = ⊥
 IsReady (Done r ∷ stack) = ⊥
 
 -- what one turn says
-abbrev pub Turns : Cfg → Falling → ℕ → List Entry → List Step → List Entry → List Step → Turn → Type 0
-Turns g m t old before new after Went = Goes g t old before new after × (load m new < load m old)
-Turns g m t old before new after Ready = (new ≡ old) × (after ≡ before) × IsReady old
-Turns g m t old before new after Stuck = (read : List TokenRef) → State g read old before → Follows g t read old before → NoneAhead g read t
+abbrev pub Turns : Cfg → ℕ → List Entry → List Step → List Entry → List Step → Turn → Type 0
+Turns g t old before new after Went = Goes g t old before new after × Nears g old new
+Turns g t old before new after Ready = (new ≡ old) × (after ≡ before) × IsReady old
+Turns g t old before new after Stuck = (read : List TokenRef) → State g read old before → Follows g t read old before → NoneAhead g read t
 
 -- what the turns before a token is drawn say: the entries are ready, or nothing can follow
 abbrev pub Expands : Cfg → ℕ → List Entry → List Step → List Entry → List Step → Bool → Type 0

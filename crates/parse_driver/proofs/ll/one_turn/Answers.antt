@@ -14,29 +14,27 @@ predict-requires-clause-nonterminal g c =
     let old = entries c.args.stack.now in
     let (rest, top) = c.in-Some.ensures in
     let is : old ≡ Find (N c.in-N.n) ∷ rest = rw (c.in-Find.is, c.in-N.is) at top in
-    reachable_in cfg c.requires.table.accepted.grammar c.in-N.n (reachable_top cfg (g.T.LlTable.falling c.args.table.now) c.args.t old rest c.args.steps.now.items c.in-N.n is c.requires.reached)
+    reachable_in cfg c.requires.table.accepted.grammar c.in-N.n (reachable_top cfg c.args.t old rest c.args.steps.now.items c.in-N.n is c.requires.reached)
 
 pub returns-in_default-predict : goal.returns-in_default-predict
 returns-in_default-predict g c =
     let cfg = g.T.LlTable.grammar c.args.table.now in
-    let m = g.T.LlTable.falling c.args.table.now in
     let old = entries c.args.stack.now in
     let steps = c.args.steps.now.items in
     let (rest, top) = c.in-Some.ensures in
     let is : old ≡ Find (N c.in-N.n) ∷ rest = rw (c.in-Find.is, c.in-N.is) at top in
-    let reachable = reachable_top cfg m c.args.t old rest steps c.in-N.n is c.requires.reached in
+    let reachable = reachable_top cfg c.args.t old rest steps c.in-N.n is c.requires.reached in
     let none_answer : IsPrediction cfg c.in-N.n c.args.t None = subst (λ (o : Option ℕ). IsPrediction cfg c.in-N.n c.args.t o) (sym c.predict.ensures ∙ c.in_default-predict.is) (c.requires.table.predicts c.in-N.n c.args.t reachable c.requires.terminal) in
-    turn_stuck cfg m c.args.t old rest steps c.in-N.n is (none_answer)
+    turn_stuck cfg c.args.t old rest steps c.in-N.n is (none_answer)
 
 pub right-requires-clause-in_range : goal.right-requires-clause-in_range
 right-requires-clause-in_range g c =
     let cfg = g.T.LlTable.grammar c.args.table.now in
-    let m = g.T.LlTable.falling c.args.table.now in
     let old = entries c.args.stack.now in
     let steps = c.args.steps.now.items in
     let (rest, top) = c.in-Some.ensures in
     let is : old ≡ Find (N c.in-N.n) ∷ rest = rw (c.in-Find.is, c.in-N.is) at top in
-    let reachable = reachable_top cfg m c.args.t old rest steps c.in-N.n is c.requires.reached in
+    let reachable = reachable_top cfg c.args.t old rest steps c.in-N.n is c.requires.reached in
     let some_answer : IsPrediction cfg c.in-N.n c.args.t (Some c.in-Some-predict.rule) = subst (λ (o : Option ℕ). IsPrediction cfg c.in-N.n c.args.t o) (sym c.predict.ensures ∙ c.in-Some-predict.is) (c.requires.table.predicts c.in-N.n c.args.t reachable c.requires.terminal) in
     let predicted = some_answer.0 in
     (number_of_rule cfg c.in-Some-predict.rule c.in-N.n predicted.right predicted.is_rule).1
@@ -48,21 +46,20 @@ returns-in_ok-push-in-Done g c =
     let (rest, top) = c.in-Some.ensures in
     let is : old ≡ Done c.in-Done.rule ∷ rest = rw c.in-Done.is at top in
     let new : entries c.drop_top.new.stack ≡ rest = c.drop_top.ensures (Done c.in-Done.rule) rest is in
-    rw (new, c.in_ok-push-in-Done.ensures.items) (turn_end cfg (g.T.LlTable.falling c.args.table.now) c.args.t old rest c.args.steps.now.items c.in-Done.rule is c.requires.reached)
+    rw (new, c.in_ok-push-in-Done.ensures.items) (turn_end cfg c.args.t old rest c.args.steps.now.items c.in-Done.rule is c.requires.reached)
 
 pub returns-in_ok-push_rule-in-N : goal.returns-in_ok-push_rule-in-N
 returns-in_ok-push_rule-in-N g c =
     let cfg = g.T.LlTable.grammar c.args.table.now in
-    let m = g.T.LlTable.falling c.args.table.now in
     let old = entries c.args.stack.now in
     let steps = c.args.steps.now.items in
     let (rest, top) = c.in-Some.ensures in
     let is : old ≡ Find (N c.in-N.n) ∷ rest = rw (c.in-Find.is, c.in-N.is) at top in
-    let reachable = reachable_top cfg m c.args.t old rest steps c.in-N.n is c.requires.reached in
+    let reachable = reachable_top cfg c.args.t old rest steps c.in-N.n is c.requires.reached in
     let some_answer : IsPrediction cfg c.in-N.n c.args.t (Some c.in-Some-predict.rule) = subst (λ (o : Option ℕ). IsPrediction cfg c.in-N.n c.args.t o) (sym c.predict.ensures ∙ c.in-Some-predict.is) (c.requires.table.predicts c.in-N.n c.args.t reachable c.requires.terminal) in
     let predicted = some_answer.0 in
     let gone : entries c.drop_top-in-N.new.stack ≡ rest = c.drop_top-in-N.ensures (Find (N c.in-N.n)) rest is in
     let right = c.right.ensures c.in-N.n predicted.right predicted.is_rule in
     let new = rw (gone, right) at c.in_ok-push_rule-in-N.ensures in
-    turn_rule cfg m c.args.t old rest steps c.in-N.n c.in-Some-predict.rule predicted.right (entries c.push_rule.new.stack) is c.requires.reached c.requires.table.falling
+    turn_rule cfg c.args.t old rest steps c.in-N.n c.in-Some-predict.rule predicted.right (entries c.push_rule.new.stack) is c.requires.reached c.requires.table.accepted
     (some_answer) predicted.is_rule new

@@ -1,7 +1,0 @@
--- No right side before the place is longer.
-use Rattle.std.proofs.Common.{◌≤◌, ◌<◌, ℕ, length, get_or}
-use Rattle.cfg_model.specs.Cfg.{Rule}
-use Rattle.cfg_model.proofs.left_ranks.longest_right.Given as goal
-
-abbrev pub invariant-loop-rule : goal.invariant-loop-rule
-invariant-loop-rule l = (k : ℕ) (d : Rule) → k < l.rule-index → length (get_or l.rules k d).right ≤ l.longest
