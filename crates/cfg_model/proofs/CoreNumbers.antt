@@ -1,12 +1,15 @@
 -- What a list of cores that is closed under moves says of all prefixes.
-use Rattle.std.proofs.Common.{◌≡◌, ℕ, zero, suc, ◌<◌, List, [], ◌∷◌, length, refl, sym, ap, subst, ◌∙◌, arith, drop}
+use Rattle.std.proofs.Common.{◌≡◌, ℕ, zero, suc, ◌<◌, ◌⊎◌, inl, inr, Contains, List, [], ◌∷◌, length, refl, sym, ap, subst, ◌∙◌, arith, drop}
 use Rattle.cfg_model.specs.declared.symbol.Sym.{Sym}
 use Rattle.cfg_model.specs.declared.symbol.Sym.TheVariants.{N}
 use Rattle.cfg_model.specs.Cfg.{Cfg, IsRule}
 use Rattle.cfg_model.specs.Valid.{Valid, InCore, HasCore, SameCore, Spreads, Begins}
 use Rattle.cfg_model.specs.Items.{right_or, right_of}
-use Rattle.cfg_model.specs.Cores.{CoreList, IsCore, IsCores}
+use Rattle.cfg_model.specs.Cores.{CoreList, IsCore, IsCores, moves_at}
+use Rattle.cfg_model.specs.LrTables.{IsLrTable, state_after}
+use Rattle.cfg_model.specs.Table.{Table}
 use Rattle.cfg_model.proofs.LooksSpread.{same_back, looks_spread}
+use Rattle.cfg_model.proofs.RuleZero.{zero_prefix}
 
 pub right_is : (g : Cfg) (r n : ℕ) (w : List Sym) → IsRule g r n w → right_of g r ≡ w
 right_is g r n w is =
@@ -107,3 +110,31 @@ within_move g cores o q k m r d x y z a there s is (b, v) =
     let whole = Spreads.move o q r d x y a s same in
     let (c, w) = spread_item g q r (suc d) y a whole in
     subst (λ l. Spreads g q r (suc d) l a) (rest_is g q q r (suc d) y z c b w v) whole
+
+-- the empty prefix has a core
+pub nothing_core : (g : Cfg) → HasCore g []
+nothing_core g = (0, 0, N g.start ∷ [], (g.terminals, Valid.start))
+
+-- no other prefix has the same core
+alone_at_start : (g : Cfg) (x : Sym) (p : List Sym) → SameCore g (x ∷ p) [] → ⊥
+alone_at_start g x p same =
+    let (a, v) = (same 0 0 (N g.start ∷ [])).1 (g.terminals, Valid.start) in
+    not_it (zero_prefix g (x ∷ p) 0 (N g.start ∷ []) a v).1
+  where
+    not_it : ((x ∷ p ≡ []) × (N g.start ∷ [] ≡ N g.start ∷ [])) ⊎ ((x ∷ p ≡ N g.start ∷ []) × (N g.start ∷ [] ≡ [])) → ⊥
+    not_it (inl (e, f)) = cc
+    not_it (inr (e, f)) = cc
+
+-- so no move leads to core 0
+pub core_zero_last : (g : Cfg) (cores : CoreList) (n : ℕ) (x : Sym) → IsCores g cores → n < length cores.items
+    → Contains (moves_at cores n) (x, 0) → ⊥
+core_zero_last g cores n x c inside has =
+    let (p, core, is) = c.each n inside in
+    let (more, there) = (c.moves p n x 0 is).0 has in
+    alone_at_start g x p (same_number g cores 0 (x ∷ p) [] there c.first)
+
+-- nor to state 0
+pub state_zero_last : (g : Cfg) (table : Table) (p : List Sym) (x : Sym) → IsLrTable g table → HasCore g (x ∷ p)
+    → state_after table (x ∷ p) ≡ 0 → ⊥
+state_zero_last g table p x is has zero_is =
+    alone_at_start g x p ((is.cores (x ∷ p) [] has (nothing_core g)).0 zero_is)

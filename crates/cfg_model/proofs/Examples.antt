@@ -8,7 +8,7 @@ use Rattle.cfg_model.specs.Steps.{step, Steps, none, more}
 use Rattle.cfg_model.specs.Sets.{Follow}
 use Rattle.cfg_model.specs.Searches.{Cyclic, HiddenLeft, LeftRecursive}
 use Rattle.cfg_model.specs.LlConflicts.{Predicts, LlConflict}
-use Rattle.cfg_model.specs.Derivation.{Forest, empty, leaf, node, yield, shift, reduce, postorder, Derive, nothing, token, rule, Derivation, IsSentence, IsViable}
+use Rattle.cfg_model.specs.Derivation.{Forest, empty, leaf, node, yield, shift, reduce, postorder, Derive, nothing, token, rule, Derivation, Gives, IsSentence, IsViable}
 use Rattle.cfg_model.proofs.Makers.{both_empty}
 
 -- L = X M, M = X M, M =
@@ -118,6 +118,13 @@ none_no_sentence (f, d) = by_rule (N 0 ∷ []) f refl d.from_start (sym d.yields
         let read = is.read in
         let right : w ≡ T 0 ∷ N 1 ∷ [] = rule_of_l is.place w (rw zero_is at read) in
         begins_with_x w (N 1 ∷ []) children right c (both_empty (yield children) (yield f) none_is).0
+
+-- L gives xx, and not the empty word, to which no tree from it comes
+xx_given : Gives rights (N 0 ∷ []) (0 ∷ 0 ∷ [])
+xx_given = record { forest = of_xx; derive = xx_is.from_start; yields = xx_is.yields }
+
+none_not_given : Gives rights (N 0 ∷ []) [] → ⊥
+none_not_given is = none_no_sentence (is.forest, record { from_start = is.derive; yields = is.yields })
 
 -- in S = X, U = S Y no sentential form has Y or U, so Y doesn't follow S though a rule has it there
 abbrev pub Clean : List Sym → Type 0

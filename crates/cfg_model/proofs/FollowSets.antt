@@ -5,9 +5,9 @@ use Rattle.cfg_model.specs.declared.symbol.Sym.TheVariants.{T, N}
 use Rattle.cfg_model.specs.Cfg.{Cfg, IsRule, IsGrammar}
 use Rattle.cfg_model.specs.Steps.{Step, step, Steps, none, more, word}
 use Rattle.cfg_model.specs.Sets.{Nullable, First, Follow, Reachable, Productive}
-use Rattle.cfg_model.specs.Derivation.{Forest, yield, Derive, token}
+use Rattle.cfg_model.specs.Derivation.{Forest, yield, Derive, token, Gives}
 use Rattle.cfg_model.specs.within.FollowParts.{FollowBase, the_end, behind, FollowEdge}
-use Rattle.cfg_model.proofs.Forests.{Gives, gives_cut, gives_of_steps, steps_of_gives, steps_then, steps_before, steps_after, word_append, gives_before}
+use Rattle.cfg_model.proofs.Forests.{gives_cut, gives_of_steps, steps_of_gives, steps_then, steps_before, steps_after, word_append, gives_before}
 use Rattle.ck_base.specs.BitSet.{BitSet}
 use Rattle.cfg_model.specs.within.Closing.{AreMakers}
 use Rattle.cfg_model.proofs.InRange.{AreSymbols, symbols_derived, symbols_right}

@@ -4,7 +4,7 @@ use Rattle.std.proofs.lemmas.List.{append-nil}
 use Rattle.cfg_model.specs.declared.symbol.Sym.{Sym}
 use Rattle.cfg_model.specs.declared.symbol.Sym.TheVariants.{T, N}
 use Rattle.cfg_model.specs.Cfg.{Cfg, IsRule}
-use Rattle.cfg_model.specs.Derivation.{Forest, empty, leaf, node, yield, shift, postorder, Derive, nothing, token, rule}
+use Rattle.cfg_model.specs.Derivation.{Forest, empty, leaf, node, yield, shift, postorder, Derive, nothing, token, rule, Gives}
 use Rattle.cfg_model.specs.Steps.{Step, step, Steps, none, more, word}
 
 abbrev pub beside : {K : Type 0} → Forest K → Forest K → Forest K
@@ -50,12 +50,7 @@ module _ {K : Type 0} (terminal : K → ℕ) (g : Cfg) where
       let c = cut u v s f tail d in
       record { left = node r children c.left; right = c.right; is = ap (λ l. node r children l) c.is; from_left = subst (λ (z : Sym). Derive terminal g (z ∷ u) (node r children c.left)) head (rule r n w u children c.left is dc c.from_left); from_right = c.from_right }
 
--- Words that a list derives, by trees.
-pub record Gives (g : Cfg) (u : List Sym) (w : List ℕ) : Type 0 where
-  pub forest : Forest ℕ
-  pub derive : Derive (λ t. t) g u forest
-  pub yields : w ≡ yield forest
-
+-- words that a list derives, by trees
 module _ (g : Cfg) where
   pub gives_none : Gives g [] []
   gives_none = record { forest = empty; derive = nothing; yields = refl }

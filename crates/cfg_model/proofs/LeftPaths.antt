@@ -9,12 +9,12 @@ use Rattle.cfg_model.specs.Cfg.{Cfg}
 use Rattle.cfg_model.specs.Steps.{step, Steps, none, more, StepsOnce}
 use Rattle.cfg_model.specs.Sets.{Nullable}
 use Rattle.cfg_model.specs.Searches.{LeftRecursive}
-use Rattle.cfg_model.specs.Derivation.{Forest, yield, Derive, token}
+use Rattle.cfg_model.specs.Derivation.{Forest, yield, Derive, token, Gives}
 use Rattle.cfg_model.specs.within.Closing.{AllPass, AreMakers}
 use Rattle.cfg_model.specs.Rows.{In}
 use Rattle.cfg_model.specs.within.Spreading.{IsEdge, Leads, here, on, AreSpread}
 use Rattle.cfg_model.specs.within.Parts.{LeftPart}
-use Rattle.cfg_model.proofs.Forests.{Gives, gives_of_steps, steps_of_gives, gives_cut, steps_then, steps_within, step_within, steps_both, steps_of_rule}
+use Rattle.cfg_model.proofs.Forests.{gives_of_steps, steps_of_gives, gives_cut, steps_then, steps_within, step_within, steps_both, steps_of_rule}
 use Rattle.cfg_model.proofs.Joining.{leads_then}
 use Rattle.cfg_model.proofs.Makers.{makes_passing, both_empty}
 use Rattle.cfg_model.proofs.Locate.{not_empty, in_first, in_middle, in_last, locate}

@@ -10,7 +10,7 @@ use Rattle.cfg_model.specs.Cfg.{Cfg, Rule, IsRule, IsSymbol, IsGrammar}
 use Rattle.cfg_model.specs.Sets.{Nullable, First, Follow, Productive, AllProductive}
 use Rattle.cfg_model.specs.within.Closing.{AllPass, AreMakers}
 use Rattle.cfg_model.specs.Steps.{Steps, none}
-use Rattle.cfg_model.specs.Derivation.{Forest, yield, Derive, nothing}
+use Rattle.cfg_model.specs.Derivation.{Forest, yield, Derive, nothing, Gives}
 use Rattle.cfg_model.specs.within.Parts.{Begins}
 use Rattle.cfg_model.specs.Rows.{In, IsSetOf, AreRowsOf}
 use Rattle.cfg_model.specs.within.Spreading.{IsInside, IsEdge, Leads, here, on, AreSpread}
@@ -18,7 +18,7 @@ use Rattle.cfg_model.specs.within.FollowParts.{FollowBase, the_end, behind, Foll
 use Rattle.cfg_model.specs.within.Gather.{Gathers, Behind}
 use Rattle.cfg_model.specs.Promise.{AreReachable}
 use Rattle.cfg_model.specs.within.Trailers.{JoinsRows, Fronted, IsAhead, StandsIn, BeginsBehind, VanishBehind, AreBehind}
-use Rattle.cfg_model.proofs.Forests.{Gives, gives_of_steps, steps_both}
+use Rattle.cfg_model.proofs.Forests.{gives_of_steps, steps_both}
 use Rattle.cfg_model.proofs.Gathering.{all_of_at, gathers_then, gathers_same, behind_cut, behind_there}
 use Rattle.cfg_model.proofs.InRange.{AreSymbols, symbols_from, symbols_of_rule, symbols_right, left_of_rule}
 use Rattle.cfg_model.proofs.FirstSets.{first_before, spread_on}

@@ -42,6 +42,12 @@ pub record Derivation {K : Type 0} (terminal : K → ℕ) (g : Cfg) (tokens : Li
   pub from_start : Derive terminal g (N g.start ∷ []) f
   pub yields : tokens ≡ yield f
 
+-- the symbols derive the word: it is the yield of trees from them
+pub record Gives (g : Cfg) (u : List Sym) (w : List ℕ) : Type 0 where
+  pub forest : Forest ℕ
+  pub derive : Derive (λ t. t) g u forest
+  pub yields : w ≡ yield forest
+
 -- a list of terminals is a sentence: it has a derivation
 abbrev pub IsSentence : Cfg → List ℕ → Type 0
 IsSentence g u = (f : Forest ℕ) × Derivation (λ t. t) g u f

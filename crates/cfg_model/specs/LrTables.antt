@@ -50,8 +50,9 @@ IsAction g p t (Reduce r) = (1 ≤ r) × Completes g p r t
 IsAction g p t Accept = Completes g p 0 t
 IsAction g p t Error = (Shifts g p t → ⊥) × HasNo (λ r. Completes g p r t)
 
--- A table of the grammar. Its states are the cores that aren't empty, in any numbering in which the
--- empty prefix's is 0; END, numbered `terminals`, is among the terminals of its actions.
+-- A table of the grammar. Each core that isn't empty has one state, and no other core has it; the empty
+-- prefix's is state 0, and there may be states that no core has. END, numbered `terminals`, is among the
+-- terminals of its actions.
 pub record IsLrTable (g : Cfg) (table : Table) : Type 0 where
   pub accepted : IsLr g
   pub inside : (p : List Sym) → HasCore g p → state_after table p < table.states

@@ -10,9 +10,10 @@ use Rattle.cfg_model.specs.Steps.{Steps, word}
 use Rattle.cfg_model.specs.Sets.{First, Nullable, AllProductive}
 use Rattle.cfg_model.specs.Items.{right_of}
 use Rattle.cfg_model.specs.Valid.{Begins, first_of}
-use Rattle.cfg_model.proofs.Forests.{Gives, gives_cut, gives_of_steps, steps_of_gives, steps_both, word_append}
+use Rattle.cfg_model.specs.Derivation.{Gives}
+use Rattle.cfg_model.proofs.Forests.{gives_cut, gives_of_steps, steps_of_gives, steps_both, word_append}
 use Rattle.cfg_model.proofs.InGrammar.{all_derive}
-use Rattle.lalr_look.specs.Rests.{rest_of}
+use Rattle.lalr_look.specs.within.Rests.{rest_of}
 use Rattle.lalr_look.proofs.Items.{get_drop, right_ok}
 
 -- a word of `y a` begins as one of y, or with a where y vanishes
