@@ -8,9 +8,9 @@ use Rattle.cfg_model.specs.declared.symbol.Sym.TheVariants.{N}
 use Rattle.cfg_model.specs.Cfg.{Cfg, Rule, IsRule, IsSymbol, IsGrammar}
 use Rattle.cfg_model.proofs.InGrammar.{right_in}
 use Rattle.std.proofs.lemmas.List.Elements.{All-head}
-use Rattle.lalr_look.specs.Flow.{Edge, EdgeAdded, Flows, own, along, set_at, no_set}
-use Rattle.lalr_look.specs.Rows.{row_at, Pushes}
-use Rattle.lalr_look.specs.Kernel.{Calls, self, on, CallsAt, CallsFirst}
+use Rattle.lalr_look.specs.within.Flow.{Edge, EdgeAdded, Flows, own, along, set_at, no_set}
+use Rattle.lalr_look.specs.within.Rows.{row_at, Pushes}
+use Rattle.lalr_look.specs.within.Kernel.{Calls, self, on, CallsAt, CallsFirst}
 use Rattle.lalr_look.proofs.Turns.{this_or_less}
 use Rattle.lalr_look.proofs.Grown.{at_end}
 use Rattle.lalr_look.proofs.RowsChanged.{same_or_other}

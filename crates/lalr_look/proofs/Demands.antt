@@ -12,10 +12,10 @@ use Rattle.cfg_model.specs.Cores.{CoreList, items_at, moves_at, IsCore, IsCores}
 use Rattle.cfg_model.proofs.Forests.{gives_of_steps}
 use Rattle.cfg_model.proofs.ItemsOfCores.{item_of, item_in}
 use Rattle.lalr_look.specs.declared.graph.Graph.{Graph}
-use Rattle.lalr_look.specs.Kernel.{AreShort, code}
-use Rattle.lalr_look.specs.Rests.{rest_of}
-use Rattle.lalr_look.specs.LookGraph.{slot_of, Behind, OwnBy, LeadsBy, AreNodes, IsNode}
-use Rattle.lalr_look.specs.Graph.{Grows}
+use Rattle.lalr_look.specs.within.Kernel.{AreShort, code}
+use Rattle.lalr_look.specs.within.Rests.{rest_of}
+use Rattle.lalr_look.specs.within.LookGraph.{slot_of, Behind, OwnBy, LeadsBy, AreNodes, IsNode}
+use Rattle.lalr_look.specs.within.Graph.{Grows}
 use Rattle.lalr_look.proofs.Items.{item_behind, get_drop, right_ok, all_at}
 use Rattle.lalr_look.proofs.Grown.{item_dot, right_short}
 use Rattle.lalr_look.proofs.Slots.{slot_rule}

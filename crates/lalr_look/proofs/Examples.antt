@@ -200,3 +200,8 @@ z_is_out cores looks i set are first item at has =
     let (q, same, v) = (are.exact 0 i 3 0 2 set [] [] first item at (0, a_has_x)).0 has in
     let none_left = only_x q 3 0 [] 2 v (empty_prefix q same) refl in
     omega (arith, none_left)
+
+-- its sets have room for X, Y, Z and END, and for no more
+no_wider_set : (cores : CoreList) (looks : List (List BitSet)) (i : ℕ) (set : BitSet) → AreLookaheads two_ends cores looks
+    → slice_get (sets_at looks 0) i ≡ Some set → set.size ≡ 64 → ⊥
+no_wider_set cores looks i set are at wide = let width = are.widths 0 i set at in omega (arith, width, wide)

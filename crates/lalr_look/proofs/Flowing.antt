@@ -1,8 +1,8 @@
 -- The invariant of the flow.
 use Rattle.std.proofs.Common.{◌≡◌, ◌≢◌, ℕ, zero, suc, ◌+◌, ◌-◌, ◌*◌, ◌<◌, ◌≤◌, ◌⊎◌, inl, inr, List, [], ◌∷◌, ◌++◌, length, arith, refl, sym, ap, subst, subst₂, ◌∙◌, Bool, true, false, ◌↔◌, get_or, slice_index_or, slice_get, Some, Contains, All, length-set, length-append, get_or-set_same, get_or-set_other}
 use Rattle.ck_base.specs.BitSet.{BitSet, Has}
-use Rattle.lalr_look.specs.Flow.{no_set, set_at, JoinedAt, Edge, Flows, own, along, Sent}
-use Rattle.lalr_look.specs.Rows.{rows_of}
+use Rattle.lalr_look.specs.within.Flow.{no_set, set_at, JoinedAt, Edge, Flows, own, along, Sent}
+use Rattle.lalr_look.specs.within.Rows.{rows_of}
 use Rattle.std.proofs.lemmas.List.{get_or-map, length-map, get_or_default}
 use Rattle.std.proofs.Common.{Vec, Global}
 use Rattle.lalr_look.proofs.Holes.{dec_has, holes, joined_le, joined_lt}
@@ -18,7 +18,7 @@ pub data Waits (edges : List (List ℕ)) (work : List ℕ) (n i : ℕ) : ℕ →
 -- at the turn of node n, whose edges from the i-th on are still to be gone
 pub record Turning (edges : List (List ℕ)) (start sets : List BitSet) (work : List ℕ) (n i : ℕ) : Type 0 where
   pub long : length sets ≡ length start
-  pub sizes : (size : ℕ) × ((k : ℕ) → k < length start → (set_at sets k).size ≡ size)
+  pub sizes : (k : ℕ) → k < length start → (set_at sets k).size ≡ (set_at start k).size
   pub within : (k a : ℕ) → Has (set_at sets k) a → Flows edges start k a
   pub kept : (k a : ℕ) → Has (set_at start k) a → Has (set_at sets k) a
   pub nodes : (k : ℕ) → Contains work k → k < length start
@@ -51,7 +51,7 @@ pub turn_joined : (edges : List (List ℕ)) (start old new : List BitSet) (befor
 turn_joined edges start old new before after n i m b t j edge inside at keeps below news =
     record {
       long = (let l = t.long in let one : length new ≡ length old = ap length j.set ∙ length-set old m j.joined in one ∙ l);
-      sizes = (t.sizes.0, λ k low. sizes_new k low);
+      sizes = sizes_new;
       within = within_new;
       kept = kept_new;
       nodes = below;
@@ -64,12 +64,13 @@ turn_joined edges start old new before after n i m b t j edge inside at keeps be
     here : set_at new m ≡ j.joined
     here = set_new old new n m b j inside_old
 
-    sizes_new : (k : ℕ) → k < length start → (set_at new k).size ≡ t.sizes.0
+    sizes_new : (k : ℕ) → k < length start → (set_at new k).size ≡ (set_at start k).size
     sizes_new k low = go (same_or_not k m)
       where
-        go : (k ≡ m) ⊎ (k ≢ m) → (set_at new k).size ≡ t.sizes.0
-        go (inl e) = ap (λ x. (set_at new x).size) e ∙ (ap (λ s. s.size) here ∙ (j.adds.size ∙ t.sizes.1 m inside))
-        go (inr e) = ap (λ s. s.size) (set_other old new n m b j k e) ∙ t.sizes.1 k low
+        go : (k ≡ m) ⊎ (k ≢ m) → (set_at new k).size ≡ (set_at start k).size
+        go (inl e) = ap (λ x. (set_at new x).size) e ∙ (ap (λ s. s.size) here ∙ (j.adds.size ∙ (t.sizes m inside
+            ∙ ap (λ x. (set_at start x).size) (sym e))))
+        go (inr e) = ap (λ s. s.size) (set_other old new n m b j k e) ∙ t.sizes k low
 
     grows : (k a : ℕ) → Has (set_at old k) a → Has (set_at new k) a
     grows k a has = go (same_or_not k m)
@@ -266,12 +267,11 @@ flowed edges start sets t n a = (t.within n a, there n a)
 
 -- the beginning: every node waits
 pub all_wait : (edges : List (List ℕ)) (start : List BitSet) (work : List ℕ) → length edges ≡ length start
-    → (size : ℕ) × All (λ set. set.size ≡ size) start → ((k : ℕ) → Contains work k ↔ (k < length start))
-    → Turning edges start start work (length edges) 0
-all_wait edges start work long (size, are) has =
+    → ((k : ℕ) → Contains work k ↔ (k < length start)) → Turning edges start start work (length edges) 0
+all_wait edges start work long has =
     record {
       long = refl;
-      sizes = (size, λ k low. are k no_set low);
+      sizes = λ k low. refl;
       within = λ n a h. own n a h;
       kept = λ n a h. h;
       nodes = λ k c. (has k).0 c;
@@ -314,9 +314,12 @@ one_lower work count turn low has k =
     back upper (inr e) = Contains-append_right work ((count - turn - 1) ∷ []) k (0, omega arith, sym e)
 
 pub same_sizes : (edges : List (List ℕ)) (start sets : List BitSet) (work : List ℕ) (n i : ℕ) → Turning edges start sets work n i
-    → (size : ℕ) × All (λ set. set.size ≡ size) sets
-same_sizes edges start sets work n i t =
-    (t.sizes.0, λ k d low. (let l = t.long in let e = get_or_default sets k d no_set low in ap (λ s. s.size) e ∙ t.sizes.1 k (omega (arith, l, low))))
+    → (size : ℕ) → All (λ set. set.size ≡ size) start → All (λ set. set.size ≡ size) sets
+same_sizes edges start sets work n i t size are k d low =
+    let l = t.long in
+    let e = get_or_default sets k d no_set low in
+    let inside : k < length start = omega (arith, l, low) in
+    ap (λ s. s.size) e ∙ (t.sizes k inside ∙ are k no_set inside)
 
 pub low_node : (edges : List (List ℕ)) (start sets : List BitSet) (work rest : List ℕ) (n : ℕ) → Turning edges start sets work (length edges) 0
     → work ≡ rest ++ (n ∷ []) → n < length start

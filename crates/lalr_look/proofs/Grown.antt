@@ -6,11 +6,11 @@ use Rattle.cfg_model.specs.declared.symbol.Sym.{Sym}
 use Rattle.cfg_model.specs.declared.symbol.Sym.TheVariants.{T, N}
 use Rattle.cfg_model.specs.Cfg.{Cfg, Rule, IsSymbol, IsGrammar}
 use Rattle.cfg_model.specs.Items.{Item, right_of, right_or}
-use Rattle.lalr_look.specs.Numbered.{Interns}
+use Rattle.lalr_look.specs.within.Numbered.{Interns}
 use Rattle.cfg_model.specs.Valid.{InCore, HasCore, SameCore}
 use Rattle.cfg_model.specs.Sets.{AllProductive}
 use Rattle.cfg_model.specs.Cores.{CoreList, items_at, moves_at, IsCore, IsCores, Rising, targets, HasMoreCores}
-use Rattle.lalr_look.specs.Rising.{Met, Climbs, ends}
+use Rattle.lalr_look.specs.within.Rising.{Met, Climbs, ends}
 use Rattle.cfg_model.proofs.ItemsOfCores.{item_of, item_in}
 use Rattle.cfg_model.proofs.CoreNumbers.{same_number, all_known}
 use Rattle.ck_base.proofs.Counting.{not_more}
@@ -19,7 +19,7 @@ use Rattle.lalr_look.proofs.Turns.{this_or_less}
 use Rattle.lalr_look.proofs.Items.{item_next, small_rule, code_rule, code_dot, climbs_get}
 use Rattle.lalr_look.proofs.OfPrefix.{items_is, symbol_after, one_kernel, none_moved}
 use Rattle.lalr_look.proofs.RowsOf.{RowFacts, row_facts}
-use Rattle.lalr_look.specs.Kernel.{code, HasItem, IsItems, IsKernel, IsOpened, Rows, place_of, Numbered, Going, pairs, AreShort, IsInside}
+use Rattle.lalr_look.specs.within.Kernel.{code, HasItem, IsItems, IsKernel, IsOpened, Rows, place_of, Numbered, Going, pairs, AreShort, IsInside}
 
 -- a list with one more at its end, at a place
 pub at_end : {X : Type 0} (l : List X) (x d : X) (j : ℕ) → ((j ≡ length l) × (slice_index_or (l ++ (x ∷ [])) j d ≡ x))

@@ -4,9 +4,9 @@ use Rattle.std.proofs.lemmas.List.{get_or_default, length-map}
 use Rattle.std.proofs.lemmas.List.Elements.{All-append, All-cons}
 use Rattle.ck_base.specs.BitSet.{BitSet, Has, Adds, IsEmpty}
 use Rattle.lalr_look.specs.declared.graph.Graph.{Graph}
-use Rattle.lalr_look.specs.Flow.{Edge, set_at, no_set}
-use Rattle.lalr_look.specs.Rows.{rows_of, Pushes}
-use Rattle.lalr_look.specs.Graph.{Gains, InSet, SetsGrow, EdgesGrow, Grows, IsSized, OfFirst, OfBelow}
+use Rattle.lalr_look.specs.within.Flow.{Edge, set_at, no_set}
+use Rattle.lalr_look.specs.within.Rows.{rows_of, Pushes}
+use Rattle.lalr_look.specs.within.Graph.{Gains, InSet, SetsGrow, EdgesGrow, Grows, IsSized, OfFirst, OfBelow}
 use Rattle.lalr_look.proofs.Turns.{this_or_less}
 use Rattle.lalr_look.proofs.Grown.{at_end}
 use Rattle.lalr_look.proofs.RowsChanged.{same_or_other}

@@ -7,12 +7,12 @@ use Rattle.cfg_model.specs.declared.symbol.Sym.{Sym}
 use Rattle.cfg_model.specs.declared.symbol.Sym.TheVariants.{N}
 use Rattle.cfg_model.specs.Cfg.{Cfg, Rule, IsSymbol, IsGrammar}
 use Rattle.cfg_model.specs.Items.{Item, right_of, right_or}
-use Rattle.lalr_look.specs.Rising.{Climbs, ends, climbs}
+use Rattle.lalr_look.specs.within.Rising.{Climbs, ends, climbs}
 use Rattle.lalr_look.proofs.Ordered.{climbs_above}
 use Rattle.cfg_model.proofs.CoreNumbers.{right_is, drop_next}
 use Rattle.cfg_model.proofs.InGrammar.{right_in}
 use Rattle.lalr_look.proofs.Turns.{contained, this_or_less}
-use Rattle.lalr_look.specs.Kernel.{code, NextIs, NextAt, Moves, Opens}
+use Rattle.lalr_look.specs.within.Kernel.{code, NextIs, NextAt, Moves, Opens}
 
 -- every symbol of a right side is the grammar's
 pub all_at : (P : Sym → Type 0) (l : List Sym) (i : ℕ) (x : Sym) → All P l → slice_get l i ≡ Some x → P x

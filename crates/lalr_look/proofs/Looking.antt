@@ -15,9 +15,9 @@ use Rattle.cfg_model.proofs.ItemsOfCores.{item_of}
 use Rattle.cfg_model.proofs.CoreNumbers.{behind_is, rest_is, same_number, each_in, within_move, spread_item}
 use Rattle.cfg_model.proofs.LooksSpread.{valid_spreads}
 use Rattle.lalr_look.proofs.RestSets.{begins_by_sets}
-use Rattle.lalr_look.specs.Flow.{Edge, Flows, own, along, set_at}
-use Rattle.lalr_look.specs.Kernel.{code}
-use Rattle.lalr_look.specs.LookGraph.{slot_of, Behind, OwnBy, LeadsBy, Own, Leads, AreNodes, IsNode}
+use Rattle.lalr_look.specs.within.Flow.{Edge, Flows, own, along, set_at}
+use Rattle.lalr_look.specs.within.Kernel.{code}
+use Rattle.lalr_look.specs.within.LookGraph.{slot_of, Behind, OwnBy, LeadsBy, Own, Leads, AreNodes, IsNode}
 use Rattle.lalr_look.proofs.Items.{small_rule}
 use Rattle.lalr_look.proofs.Slots.{slot_rule, slot_front, slot_called, slot_moved}
 
@@ -28,10 +28,13 @@ pub record LookGraph (g : Cfg) (cores : CoreList) (nodes : List (ℕ × ℕ)) (e
   pub edge : (k j : ℕ) → Edge edges k j ↔ Leads g cores nodes k j
 
 -- a row with a member is one of the rows
+pub row_inside : {X : Type 0} (ls : List (List X)) (n i : ℕ) → i < length (slice_index_or ls n []) → n < length ls
+row_inside [] n i low = absurd (omega (arith, low))
+row_inside (l ∷ ls) zero i low = omega arith
+row_inside (l ∷ ls) (suc n) i low = (let h = row_inside ls n i low in omega (arith, h))
+
 pub row_low : (ls : List (List (ℕ × ℕ))) (n : ℕ) (x : ℕ × ℕ) → Contains (slice_index_or ls n []) x → n < length ls
-row_low [] n x (i, low, is) = absurd (omega (arith, low))
-row_low (l ∷ ls) zero x has = omega arith
-row_low (l ∷ ls) (suc n) x has = (let h = row_low ls n x has in omega (arith, h))
+row_low ls n x (i, low, is) = row_inside ls n i low
 
 -- one place has one node
 same_node : (nodes : List (ℕ × ℕ)) (k n s m t : ℕ) → slice_get nodes k ≡ Some (n, s) → slice_get nodes k ≡ Some (m, t) → (n ≡ m) × (s ≡ t)

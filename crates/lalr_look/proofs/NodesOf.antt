@@ -11,13 +11,13 @@ use Rattle.cfg_model.specs.Sets.{AllProductive}
 use Rattle.cfg_model.specs.Valid.{InCore, Look}
 use Rattle.cfg_model.specs.Cores.{CoreList, items_at, moves_at, IsCore, IsCores}
 use Rattle.lalr_look.specs.declared.graph.Graph.{Graph}
-use Rattle.lalr_look.specs.Flow.{Edge, Flows, set_at}
-use Rattle.lalr_look.specs.Rows.{rows_of}
-use Rattle.lalr_look.specs.Numbered.{Interns}
-use Rattle.lalr_look.specs.Kernel.{place_of, AreShort}
+use Rattle.lalr_look.specs.within.Flow.{Edge, Flows, no_set, set_at}
+use Rattle.lalr_look.specs.within.Rows.{rows_of}
+use Rattle.lalr_look.specs.within.Numbered.{Interns}
+use Rattle.lalr_look.specs.within.Kernel.{place_of, AreShort}
 use Rattle.lalr_look.specs.Promise.{sets_of, sets_at, AreLookaheads}
-use Rattle.lalr_look.specs.Graph.{Grows, InSet, OfFirst, OfBelow}
-use Rattle.lalr_look.specs.LookGraph.{slot_of, OwnBy, LeadsBy, OwnIn, LeadsIn, Own, Leads, AreNodes, IsNode, IsNodeSet, AreNodeSets}
+use Rattle.lalr_look.specs.within.Graph.{Grows, InSet, OfFirst, OfBelow}
+use Rattle.lalr_look.specs.within.LookGraph.{slot_of, OwnBy, LeadsBy, OwnIn, LeadsIn, Own, Leads, AreNodes, IsNode, IsNodeSet, AreNodeSets}
 use Rattle.lalr_look.proofs.Turns.{this_or_less, contained, placed}
 use Rattle.lalr_look.proofs.Grown.{at_end}
 use Rattle.cfg_model.specs.Valid.{Valid}
@@ -27,7 +27,7 @@ use Rattle.lalr_look.proofs.RowsChanged.{same_or_other}
 use Rattle.lalr_look.proofs.Numbering.{value_of_longer}
 use Rattle.lalr_look.proofs.Growth.{gains_all, first_next, below_next, grows_same, grows_then, grows_none, below_none, first_none}
 use Rattle.lalr_look.proofs.Demands.{rule_fits, dot_fits, node_is}
-use Rattle.lalr_look.proofs.Looking.{LookGraph, flows_look, row_low}
+use Rattle.lalr_look.proofs.Looking.{LookGraph, flows_look, row_low, row_inside}
 
 pub interned : {X : Type 0} (old new : List X) (x : X) (n : ℕ) → Interns old new x n → ((y : X) → Contains old y → Contains new y) × Contains new x
 interned old new x n (Interns.known e at) =
@@ -230,10 +230,23 @@ dots_fit g ok short all cores c n i d low =
 
 -- the sets of the nodes are the united lookaheads
 pub are_lookaheads : (g : Cfg) → IsGrammar g → (cores : CoreList) → IsCores g cores → (nodes : List (ℕ × ℕ)) (edges : List (List ℕ)) (sets spread : List BitSet) (looks : List (List BitSet))
-    → LookGraph g cores nodes edges sets → ((k a : ℕ) → Has (set_at spread k) a ↔ Flows edges sets k a) → AreNodeSets g cores nodes spread looks → AreLookaheads g cores looks
-are_lookaheads g ok cores c nodes edges sets spread looks t flows s =
-    record { cores_kept = s.cores_kept; items_kept = s.items_kept; exact = exact }
+    → LookGraph g cores nodes edges sets → ((k a : ℕ) → Has (set_at spread k) a ↔ Flows edges sets k a) → AreNodeSets g cores nodes spread looks
+    → All (λ set. set.size ≡ g.terminals + 1) spread → length spread ≡ length nodes → AreLookaheads g cores looks
+are_lookaheads g ok cores c nodes edges sets spread looks t flows s sizes long =
+    record { cores_kept = s.cores_kept; items_kept = s.items_kept; widths = widths; exact = exact }
   where
+    -- a set has the place of an item, and that item's node
+    widths : (n i : ℕ) (set : BitSet) → slice_get (sets_at looks n) i ≡ Some set → set.size ≡ g.terminals + 1
+    widths n i set there =
+        let inside = slice_get_within (sets_at looks n) i set there in
+        let core : n < length cores.items = (let l = s.cores_kept in let low = row_inside looks n i inside in omega (arith, l, low)) in
+        let count = s.items_kept n core in
+        let at = slice_get-get_or (items_at cores n) i (0, 0) (omega (arith, inside, count)) in
+        let item : ℕ × ℕ = get_or (items_at cores n) i (0, 0) in
+        let one = s.each n i (item.0) (item.1) set core at there in
+        let node = slice_get_within nodes one.node _ one.is.there in
+        one.size ∙ sizes one.node no_set (omega (arith, node, long))
+
     exact : (n i r d a : ℕ) (set : BitSet) (p y : List Sym) → IsCore g cores n p → slice_get (items_at cores n) i ≡ Some (r, d)
         → slice_get (sets_at looks n) i ≡ Some set → InCore g p r d y → Has set a ↔ Look g p r d y a
     exact n i r d a set p y is at there item =

@@ -7,7 +7,7 @@ use Rattle.std.proofs.lemmas.List.Folds.{list_any_none}
 use Rattle.std.proofs.lemmas.List.Quantifiers.{position-Some}
 use Rattle.std.proofs.lemmas.List.Sums.{position_or_len_is}
 use Rattle.std.proofs.lemmas.Option.{none-some, same_Some, slice_get-get_or, slice_get_within, get_or_from_slice_get}
-use Rattle.lalr_look.specs.Numbered.{AreApart, AreNumbered, Interns, added}
+use Rattle.lalr_look.specs.within.Numbered.{AreApart, AreNumbered, Interns, added}
 
 -- a test on what is seen of the values
 pub position_or_len-seen : {K X : Type 0} (seen : K → X) (test : X → Bool) (raw : List K)

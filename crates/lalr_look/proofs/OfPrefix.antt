@@ -7,11 +7,11 @@ use Rattle.cfg_model.specs.declared.symbol.Sym.{Sym}
 use Rattle.cfg_model.specs.declared.symbol.Sym.TheVariants.{T, N}
 use Rattle.cfg_model.specs.Cfg.{Cfg, Rule, IsRule, IsSymbol, IsGrammar}
 use Rattle.cfg_model.specs.Items.{Item, right_of}
-use Rattle.lalr_look.specs.Rising.{Climbs, ends, climbs}
+use Rattle.lalr_look.specs.within.Rising.{Climbs, ends, climbs}
 use Rattle.lalr_look.proofs.Ordered.{one_rising}
 use Rattle.lalr_look.proofs.Turns.{contained, placed}
 use Rattle.lalr_look.proofs.Items.{next_symbol, item_next, next_item, climbs_join, MoveFacts, move_facts, OpenFacts, open_facts}
-use Rattle.lalr_look.specs.Kernel.{code, NextIs, NextAt, HasItem, IsItems, IsKernel, Calls, self, on, CalledBy, Moves, IsOpened, place_of, callers, front_of}
+use Rattle.lalr_look.specs.within.Kernel.{code, NextIs, NextAt, HasItem, IsItems, IsKernel, Calls, self, on, CalledBy, Moves, IsOpened, place_of, callers, front_of}
 
 -- the item isn't one of a called rule: its dot is past the front, or it is that of rule 0
 pub data Given : List Sym → ℕ → ℕ → Type 0 where

@@ -2,7 +2,7 @@
 use Rattle.std.proofs.Common.{◌≡◌, ℕ, zero, suc, ◌+◌, ◌<◌, ◌≤◌, ◌↔◌, ◌⊎◌, inl, inr, List, [], ◌∷◌, ◌++◌, refl, sym, ap, ap₂, subst, arith, Contains}
 use Rattle.std.proofs.lemmas.List.Elements.{Contains-append_left, Contains-append_right}
 use Rattle.cfg_model.specs.Cores.{FirstMet}
-use Rattle.lalr_look.specs.Rising.{Met, Climbs, ends, climbs}
+use Rattle.lalr_look.specs.within.Rising.{Met, Climbs, ends, climbs}
 
 -- a number at the end of a list, or before
 pub data Cut (ns : List ℕ) (n : ℕ) (a b : List ℕ) (m : ℕ) : Type 0 where

@@ -1,6 +1,6 @@
 -- Rows of numbers of which one changed.
 use Rattle.std.proofs.Common.{◌≡◌, ◌≢◌, ℕ, zero, suc, ◌<◌, ◌⊎◌, List, [], ◌∷◌, ◌++◌, length, refl, sym, ap, ◌∙◌, arith, slice_set, Vec, Global}
-use Rattle.lalr_look.specs.Rows.{rows_of, row_at, Pushes, Takes}
+use Rattle.lalr_look.specs.within.Rows.{rows_of, row_at, Pushes, Takes}
 
 pub same_or_other : (k from : ℕ) → (k ≡ from) ⊎ (k ≢ from)
 same_or_other k from = grind arith

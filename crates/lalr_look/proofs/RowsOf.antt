@@ -3,17 +3,17 @@ use Rattle.std.proofs.Common.{◌≡◌, ◌≢◌, ℕ, zero, suc, ◌+◌, ◌
 use Rattle.std.proofs.lemmas.List.Elements.{Contains-append_left, Contains-append_right, Contains-append_cases}
 use Rattle.std.proofs.lemmas.List.{map-append}
 use Rattle.std.proofs.lemmas.Option.{slice_get_within}
-use Rattle.lalr_look.specs.Numbered.{Interns}
+use Rattle.lalr_look.specs.within.Numbered.{Interns}
 use Rattle.lalr_look.proofs.Numbering.{value_of_longer}
 use Rattle.cfg_model.specs.declared.symbol.Sym.{Sym}
 use Rattle.cfg_model.specs.declared.symbol.Sym.TheVariants.{T, N}
 use Rattle.cfg_model.specs.Cfg.{Cfg, IsSymbol, IsGrammar}
 use Rattle.cfg_model.specs.Cores.{Before, Rising}
-use Rattle.lalr_look.specs.Rising.{Met}
+use Rattle.lalr_look.specs.within.Rising.{Met}
 use Rattle.lalr_look.proofs.Ordered.{meet_known, meet_next}
 use Rattle.lalr_look.proofs.Turns.{contained, this_or_less}
 use Rattle.lalr_look.proofs.OfPrefix.{moved_kernel, moved_nothing, symbol_after, symbol_one}
-use Rattle.lalr_look.specs.Kernel.{HasItem, IsItems, IsKernel, Moves, Rows, place_of, Numbered}
+use Rattle.lalr_look.specs.within.Kernel.{HasItem, IsItems, IsKernel, Moves, Rows, place_of, Numbered}
 
 -- what interning does to a list of kernels
 pub interns_kept : (old new : List (List ℕ)) (name : List ℕ) (n : ℕ) → Interns old new name n

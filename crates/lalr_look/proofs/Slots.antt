@@ -5,8 +5,8 @@ use Rattle.cfg_model.specs.declared.symbol.Sym.{Sym}
 use Rattle.cfg_model.specs.Cfg.{Cfg, Rule, IsRule, IsGrammar}
 use Rattle.cfg_model.specs.Valid.{Valid, start, closure, move}
 use Rattle.cfg_model.proofs.ItemsOfCores.{item_of}
-use Rattle.lalr_look.specs.Kernel.{code}
-use Rattle.lalr_look.specs.LookGraph.{slot_or, front_slot, slot_of}
+use Rattle.lalr_look.specs.within.Kernel.{code}
+use Rattle.lalr_look.specs.within.LookGraph.{slot_or, front_slot, slot_of}
 use Rattle.lalr_look.proofs.Items.{small_rule}
 
 pub slot_rule : (g : Cfg) (s m : ℕ) (z : List Sym) → IsRule g s m z → slot_of g s 0 ≡ suc m

@@ -2,8 +2,8 @@
 use Rattle.std.proofs.Common.{◌≡◌, ℕ, ◌+◌, ◌<◌, List, [], length, sym, subst, slice_get, Some, get_or}
 use Rattle.std.proofs.lemmas.Option.{slice_get-get_or}
 use Rattle.cfg_model.specs.Cfg.{Cfg}
-use Rattle.lalr_look.specs.Rows.{row_at}
-use Rattle.lalr_look.specs.Kernel.{SortsTo, Sorts, put, left, Moves}
+use Rattle.lalr_look.specs.within.Rows.{row_at}
+use Rattle.lalr_look.specs.within.Kernel.{SortsTo, Sorts, put, left, Moves}
 
 -- before the first item
 pub sorted_first : (g : Cfg) (items : List ℕ) (rows : List (List ℕ)) → ((k : ℕ) → row_at rows k ≡ []) → (i : ℕ) → Moves g items i 0 (row_at rows i)

@@ -2,11 +2,11 @@
 use Rattle.std.proofs.Common.{◌≡◌, ℕ, ◌+◌, ◌<◌, ◌≤◌, ◌↔◌, ◌⊎◌, inl, inr, List, [], ◌∷◌, ◌++◌, length, refl, sym, ap, subst, ◌∙◌, arith, slice_get, Some, Contains, get_or}
 use Rattle.std.proofs.lemmas.Option.{slice_get-get_or, slice_get_within, get_or_from_slice_get}
 use Rattle.ck_base.specs.BitSet.{BitSet, Has, Adds}
-use Rattle.lalr_look.specs.Numbered.{Interns}
+use Rattle.lalr_look.specs.within.Numbered.{Interns}
 use Rattle.cfg_model.specs.declared.symbol.Sym.{Sym}
 use Rattle.cfg_model.specs.declared.symbol.Sym.TheVariants.{N}
 use Rattle.cfg_model.specs.Cfg.{Cfg, Rule, IsSymbol}
-use Rattle.lalr_look.specs.Kernel.{NextIs, Calls, CalledAt, CalledBy, Moves, Opens, Rows, place_of, IsOpened}
+use Rattle.lalr_look.specs.within.Kernel.{NextIs, Calls, CalledAt, CalledBy, Moves, Opens, Rows, place_of, IsOpened}
 
 -- the nonterminals that the first items call
 abbrev pub CalledFirst : Cfg → List ℕ → ℕ → ℕ → Type 0

@@ -1,9 +1,2 @@
-pub mod Flow
-pub mod Graph
-pub mod Kernel
-pub mod LookGraph
-pub mod Numbered
 pub mod Promise
-pub mod Rests
-pub mod Rising
-pub mod Rows
+pub mod within

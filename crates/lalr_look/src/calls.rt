@@ -2,9 +2,9 @@
 ghost use Rattle.std.specs.Prelude.{◌≡◌, ℕ, ◌<◌, ◌↔◌, ◌⊎◌, length, All, IfOk, OnOk};
 ghost use Rattle.ck_base.specs.BitSet.{Has};
 ghost use Rattle.cfg_model.specs.Cfg.{IsGrammar};
-ghost use Rattle.lalr_look.specs.Flow.{Edge, set_at};
-ghost use Rattle.lalr_look.specs.Rows.{rows_of};
-ghost use Rattle.lalr_look.specs.Kernel.{Calls, CallsAt, CallsFirst};
+ghost use Rattle.lalr_look.specs.within.Flow.{Edge, set_at};
+ghost use Rattle.lalr_look.specs.within.Rows.{rows_of};
+ghost use Rattle.lalr_look.specs.within.Kernel.{Calls, CallsAt, CallsFirst};
 
 use crate::flow::{own_sets, spread};
 use crate::rows::{no_rows, push_at};

@@ -1,8 +1,8 @@
 // Sets of tokens handed on along the edges of a graph until nothing changes.
 ghost use Rattle.std.specs.Prelude.{◌≡◌, ℕ, ◌<◌, ◌≤◌, ◌+◌, ◌^◌, ◌↔◌, All, Contains, length, OnOk, IfOk};
 ghost use Rattle.ck_base.specs.BitSet.{Has};
-ghost use Rattle.lalr_look.specs.Flow.{JoinedAt, Sent, Edge, Flows, set_at};
-ghost use Rattle.lalr_look.specs.Rows.{rows_of};
+ghost use Rattle.lalr_look.specs.within.Flow.{JoinedAt, Sent, Edge, Flows, set_at};
+ghost use Rattle.lalr_look.specs.within.Rows.{rows_of};
 
 use ck_base::{Bits, NoMemory};
 use std::alloc::Global;
@@ -44,7 +44,8 @@ pub fn spread(alloc: Global, edges: &Vec<Vec<u32>>, sets: &mut [Bits]) -> Result
     ensures flows { OnOk result ((n a : ℕ) → Has (set_at sets.new n) a ↔ Flows
         (rows_of edges.now.items) sets.old n a) }
     ensures long { OnOk result (length sets.new ≡ length sets.old) }
-    ensures sizes { OnOk result ((size : ℕ) × All (λ set. set.size ≡ size) sets.new) }
+    ensures sizes { OnOk result ((size : ℕ) → All (λ set. set.size ≡ size) sets.old
+        → All (λ set. set.size ≡ size) sets.new) }
 {
     let count = sets.len() as u32;
     let mut work = all_below(alloc, count)?;

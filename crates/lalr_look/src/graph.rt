@@ -1,8 +1,8 @@
 // A graph whose nodes have sets of tokens of their own.
 ghost use Rattle.std.specs.Prelude.{◌≡◌, ℕ, ◌<◌, length, All, IfOk, OnOk};
-ghost use Rattle.lalr_look.specs.Graph.{IsSized, InSet, Grows};
-ghost use Rattle.lalr_look.specs.Flow.{Edge, set_at};
-ghost use Rattle.lalr_look.specs.Rows.{rows_of};
+ghost use Rattle.lalr_look.specs.within.Graph.{IsSized, InSet, Grows};
+ghost use Rattle.lalr_look.specs.within.Flow.{Edge, set_at};
+ghost use Rattle.lalr_look.specs.within.Rows.{rows_of};
 
 use crate::rows::{no_rows, push_at};
 use ck_base::{Bits, NoMemory};

@@ -1,6 +1,6 @@
 // Kernels of cores, numbered by their first occurrence.
 ghost use Rattle.std.specs.Prelude.{◌≡◌, ℕ, ◌+◌, ◌^◌, ◌<◌, ◌↔◌, [], length, IfOk, OnErr, IsNone, Contains, slice_get};
-ghost use Rattle.lalr_look.specs.Numbered.{Interns};
+ghost use Rattle.lalr_look.specs.within.Numbered.{Interns};
 
 use ck_base::NoMemory;
 use indexmap::IndexSet;
@@ -15,8 +15,8 @@ pub struct Kernels {
 
 impl Model for Kernels {
     ghost use Rattle.std.specs.Prelude.{ℕ, List};
-    ghost use Rattle.lalr_look.specs.Rows.{rows_of};
-    ghost use Rattle.lalr_look.specs.Numbered.{AreNumbered};
+    ghost use Rattle.lalr_look.specs.within.Rows.{rows_of};
+    ghost use Rattle.lalr_look.specs.within.Numbered.{AreNumbered};
 
     ghost Value = { List (List ℕ) };
 

@@ -5,12 +5,12 @@ ghost use Rattle.cfg_model.specs.declared.symbol.Sym.{Sym};
 ghost use Rattle.cfg_model.specs.Cfg.{IsGrammar, IsSymbol};
 ghost use Rattle.cfg_model.specs.Sets.{First, Nullable, AllProductive};
 ghost use Rattle.cfg_model.specs.Cores.{IsCores, items_at};
-ghost use Rattle.lalr_look.specs.Flow.{Edge, set_at};
-ghost use Rattle.lalr_look.specs.Rows.{rows_of};
-ghost use Rattle.lalr_look.specs.Kernel.{AreShort, place_of};
-ghost use Rattle.lalr_look.specs.Graph.{InSet, Grows, IsSized, SetsGrow, OfFirst};
-ghost use Rattle.lalr_look.specs.Rests.{AreRests, rest_of};
-ghost use Rattle.lalr_look.specs.LookGraph.{slot_of, OwnBy, LeadsBy, OwnIn, LeadsIn, Own, Leads, AreNodes, AreTargets, IsNodeSet, AreNodeSets};
+ghost use Rattle.lalr_look.specs.within.Flow.{Edge, set_at};
+ghost use Rattle.lalr_look.specs.within.Rows.{rows_of};
+ghost use Rattle.lalr_look.specs.within.Kernel.{AreShort, place_of};
+ghost use Rattle.lalr_look.specs.within.Graph.{InSet, Grows, IsSized, SetsGrow, OfFirst};
+ghost use Rattle.lalr_look.specs.within.Rests.{AreRests, rest_of};
+ghost use Rattle.lalr_look.specs.within.LookGraph.{slot_of, OwnBy, LeadsBy, OwnIn, LeadsIn, Own, Leads, AreNodes, AreTargets, IsNodeSet, AreNodeSets};
 ghost use Rattle.lalr_look.specs.Promise.{AreLookaheads, sets_of};
 
 use crate::core_list::Cores;

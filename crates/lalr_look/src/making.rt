@@ -4,9 +4,9 @@ ghost use Rattle.ck_base.specs.BitSet.{Has, Adds};
 ghost use Rattle.cfg_model.specs.Cfg.{IsGrammar, IsSymbol};
 ghost use Rattle.cfg_model.specs.Sets.{AllProductive};
 ghost use Rattle.cfg_model.specs.Cores.{IsCores, HasMoreCores};
-ghost use Rattle.lalr_look.specs.Flow.{set_at};
-ghost use Rattle.lalr_look.specs.Rows.{rows_of, row_at};
-ghost use Rattle.lalr_look.specs.Kernel.{AreShort, IsInside, Sorts, Calls, CalledAt, CalledBy, Moves, Opens, Rows, IsOpened, Going, pairs, place_of};
+ghost use Rattle.lalr_look.specs.within.Flow.{set_at};
+ghost use Rattle.lalr_look.specs.within.Rows.{rows_of, row_at};
+ghost use Rattle.lalr_look.specs.within.Kernel.{AreShort, IsInside, Sorts, Calls, CalledAt, CalledBy, Moves, Opens, Rows, IsOpened, Going, pairs, place_of};
 ghost use Rattle.lalr_look.specs.Promise.{NoCores};
 
 use crate::calls::calls_of;

@@ -1,6 +1,6 @@
 // Pairs of core and nonterminal, numbered.
 ghost use Rattle.std.specs.Prelude.{◌≡◌, ℕ, [], length, IfOk, OnOk, Some, Contains, slice_get};
-ghost use Rattle.lalr_look.specs.Numbered.{Interns};
+ghost use Rattle.lalr_look.specs.within.Numbered.{Interns};
 
 use ck_base::NoMemory;
 use indexmap::IndexSet;
@@ -16,7 +16,7 @@ pub struct Nodes {
 
 impl Model for Nodes {
     ghost use Rattle.std.specs.Prelude.{ℕ, List};
-    ghost use Rattle.lalr_look.specs.Numbered.{AreNumbered};
+    ghost use Rattle.lalr_look.specs.within.Numbered.{AreNumbered};
 
     ghost Value = { List (ℕ × ℕ) };
 

@@ -3,8 +3,8 @@ ghost use Rattle.std.specs.Prelude.{◌≡◌, ℕ, ◌+◌, ◌<◌, ◌≤◌,
 ghost use Rattle.ck_base.specs.BitSet.{Adds};
 ghost use Rattle.cfg_model.specs.Cfg.{IsGrammar, IsSymbol};
 ghost use Rattle.cfg_model.specs.Sets.{First, Nullable, AllProductive};
-ghost use Rattle.lalr_look.specs.Kernel.{AreShort};
-ghost use Rattle.lalr_look.specs.Rests.{AreRests, rest_of};
+ghost use Rattle.lalr_look.specs.within.Kernel.{AreShort};
+ghost use Rattle.lalr_look.specs.within.Rests.{AreRests, rest_of};
 
 use cfg_model::{Grammar, Sym, first, nullable};
 use ck_base::{Bits, NoMemory};

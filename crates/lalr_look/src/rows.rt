@@ -1,6 +1,6 @@
 // Lists of numbers by row.
 ghost use Rattle.std.specs.Prelude.{◌≡◌, ℕ, ◌<◌, [], length, IfOk, OnOk};
-ghost use Rattle.lalr_look.specs.Rows.{rows_of, row_at, Pushes, Takes};
+ghost use Rattle.lalr_look.specs.within.Rows.{rows_of, row_at, Pushes, Takes};
 
 use ck_base::NoMemory;
 use std::alloc::Global;

@@ -1,5 +1,5 @@
 use Rattle.std.proofs.Common.{sym, ap, ◌∙◌, subst, Some}
-use Rattle.lalr_look.specs.Rows.{rows_of, Pushes}
+use Rattle.lalr_look.specs.within.Rows.{rows_of, Pushes}
 use Rattle.lalr_look.proofs.CallGraph.{one_call, edge_pushed}
 use Rattle.lalr_look.proofs.calls.add_call.Goals as goal
 

@@ -1,7 +1,7 @@
 use Rattle.std.proofs.Common.{◌≡◌, ℕ, length, ◌↔◌}
-use Rattle.lalr_look.specs.Flow.{Edge}
-use Rattle.lalr_look.specs.Rows.{rows_of}
-use Rattle.lalr_look.specs.Kernel.{CallsFirst}
+use Rattle.lalr_look.specs.within.Flow.{Edge}
+use Rattle.lalr_look.specs.within.Rows.{rows_of}
+use Rattle.lalr_look.specs.within.Kernel.{CallsFirst}
 use Rattle.lalr_look.proofs.calls.call_edges.Given as goal
 
 abbrev pub invariant-loop-i : goal.invariant-loop-i

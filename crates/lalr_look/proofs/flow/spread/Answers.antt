@@ -1,13 +1,13 @@
 use Rattle.std.proofs.Common.{◌≡◌, ℕ, length, List, [], ◌∷◌, arith, refl, sym, ap, ◌∙◌, subst, Contains, slice_index_or}
 use Rattle.std.proofs.lemmas.List.Elements.{Contains-append_right}
-use Rattle.lalr_look.specs.Rows.{rows_of}
+use Rattle.lalr_look.specs.within.Rows.{rows_of}
 use Rattle.lalr_look.proofs.Flowing.{Turning, all_wait, popped, row_done, sent, flowed, row_is, counted, same_sizes, low_node, edge_at}
 use Rattle.lalr_look.proofs.flow.spread.Goals as goal
 
 pub loop-n-init : goal.loop-n-init
 loop-n-init c =
     let long = counted c.args.edges.now.items ∙ c.requires.nodes in
-    all_wait (rows_of c.args.edges.now.items) c.args.sets.now c.in_ok-work.work.items long c.requires.sizes c.in_ok-work.ensures
+    all_wait (rows_of c.args.edges.now.items) c.args.sets.now c.in_ok-work.work.items long c.in_ok-work.ensures
 
 pub index-next-requires : goal.index-next-requires
 index-next-requires c =
@@ -54,7 +54,8 @@ send-requires-clause-inside c =
     (omega (arith, low, long), omega (arith, inside, long))
 
 pub send-requires-clause-sizes : goal.send-requires-clause-sizes
-send-requires-clause-sizes c = same_sizes _ _ _ _ _ _ (c.loop-i.invariant).0
+send-requires-clause-sizes c =
+    let (size, are) = c.requires.sizes in (size, same_sizes _ _ _ _ _ _ (c.loop-i.invariant).0 size are)
 
 pub loop-i-preserved : goal.loop-i-preserved
 loop-i-preserved c =

@@ -1,5 +1,5 @@
 use Rattle.std.proofs.Common.{◌≤◌, ◌+◌, ◌*◌, length}
-use Rattle.lalr_look.specs.Rows.{rows_of}
+use Rattle.lalr_look.specs.within.Rows.{rows_of}
 use Rattle.lalr_look.proofs.Flowing.{Turning}
 use Rattle.lalr_look.proofs.Holes.{holes}
 use Rattle.lalr_look.proofs.flow.spread.Given as goal

@@ -1,5 +1,5 @@
 use Rattle.std.proofs.Common.{◌≡◌, ℕ, All, length}
-use Rattle.lalr_look.specs.Graph.{InSet}
+use Rattle.lalr_look.specs.within.Graph.{InSet}
 use Rattle.lalr_look.proofs.graph.empty_sets.Given as goal
 
 abbrev pub invariant-loop : goal.invariant-loop

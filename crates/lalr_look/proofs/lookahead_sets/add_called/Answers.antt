@@ -1,6 +1,6 @@
 use Rattle.std.proofs.Common.{◌+◌}
 use Rattle.cfg_model.specs.Sets.{First, Nullable}
-use Rattle.lalr_look.specs.Rests.{rest_of}
+use Rattle.lalr_look.specs.within.Rests.{rest_of}
 use Rattle.lalr_look.proofs.Growth.{called_grows, stays_grows}
 use Rattle.lalr_look.proofs.lookahead_sets.add_called.Goals as goal
 

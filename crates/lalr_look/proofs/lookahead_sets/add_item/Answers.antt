@@ -1,8 +1,8 @@
 use Rattle.std.proofs.Common.{◌+◌, slice_get, Contains, subst, subst₂, sym, ap, ap₂, ◌∙◌, arith, length, get_or}
 use Rattle.std.proofs.lemmas.Option.{slice_get_within}
 use Rattle.cfg_model.specs.Items.{right_of}
-use Rattle.lalr_look.specs.Kernel.{place_of}
-use Rattle.lalr_look.specs.LookGraph.{slot_of}
+use Rattle.lalr_look.specs.within.Kernel.{place_of}
+use Rattle.lalr_look.specs.within.LookGraph.{slot_of}
 use Rattle.lalr_look.proofs.RestSets.{none_of}
 use Rattle.lalr_look.proofs.Growth.{sized_still}
 use Rattle.lalr_look.proofs.Demands.{rule_fits, dot_fits, symbol_fits, next_fits, moves_there, next_there, called_node, before_token, before_called, at_the_end, node_is, target_at}

@@ -1,6 +1,6 @@
 use Rattle.std.proofs.Common.{◌≡◌, ◌+◌, subst, sym, arith, length, get_or, Contains, slice_get, Some}
 use Rattle.std.proofs.lemmas.Option.{slice_get-get_or}
-use Rattle.lalr_look.specs.Kernel.{place_of}
+use Rattle.lalr_look.specs.within.Kernel.{place_of}
 use Rattle.lalr_look.proofs.Growth.{sized_still}
 use Rattle.lalr_look.proofs.NodesOf.{moves_fit, moves_once, item_demands, core_demands, no_items_demand}
 use Rattle.lalr_look.proofs.lookahead_sets.add_items.Goals as goal

@@ -1,6 +1,6 @@
 use Rattle.std.proofs.Common.{◌+◌, length}
-use Rattle.lalr_look.specs.Graph.{Grows, IsSized, OfFirst}
-use Rattle.lalr_look.specs.LookGraph.{LeadsBy, OwnBy}
+use Rattle.lalr_look.specs.within.Graph.{Grows, IsSized, OfFirst}
+use Rattle.lalr_look.specs.within.LookGraph.{LeadsBy, OwnBy}
 use Rattle.lalr_look.proofs.lookahead_sets.add_items.Given as goal
 
 abbrev pub invariant-loop-item : goal.invariant-loop-item

@@ -1,5 +1,5 @@
 use Rattle.std.proofs.Common.{◌≡◌, ℕ, ◌<◌, Contains, slice_get, Some}
-use Rattle.lalr_look.specs.LookGraph.{slot_of}
+use Rattle.lalr_look.specs.within.LookGraph.{slot_of}
 use Rattle.lalr_look.proofs.lookahead_sets.add_nodes.Given as goal
 
 abbrev pub invariant-loop-item : goal.invariant-loop-item

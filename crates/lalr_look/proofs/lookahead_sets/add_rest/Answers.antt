@@ -2,8 +2,8 @@ use Rattle.std.proofs.Common.{◌≡◌, subst, ◌∙◌}
 use Rattle.std.proofs.lemmas.List.{get_or_default}
 use Rattle.ck_base.specs.BitSet.{BitSet, Adds}
 use Rattle.cfg_model.specs.Sets.{First}
-use Rattle.lalr_look.specs.Flow.{set_at, no_set}
-use Rattle.lalr_look.specs.Rests.{rest_of}
+use Rattle.lalr_look.specs.within.Flow.{set_at, no_set}
+use Rattle.lalr_look.specs.within.Rests.{rest_of}
 use Rattle.lalr_look.proofs.Growth.{set_grows}
 use Rattle.lalr_look.proofs.lookahead_sets.add_rest.Goals as goal
 

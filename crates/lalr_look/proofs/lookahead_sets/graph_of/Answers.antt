@@ -1,6 +1,6 @@
 use Rattle.std.proofs.Common.{◌≡◌, ◌+◌, subst, subst₂, ap, arith, length}
 use Rattle.std.proofs.lemmas.Option.{slice_get_within}
-use Rattle.lalr_look.specs.Graph.{IsSized, Grows}
+use Rattle.lalr_look.specs.within.Graph.{IsSized, Grows}
 use Rattle.lalr_look.proofs.Growth.{sized_still, size_at}
 use Rattle.lalr_look.proofs.NodesOf.{start_there, none_demand, cores_demand, graph_whole}
 use Rattle.lalr_look.proofs.lookahead_sets.graph_of.Goals as goal

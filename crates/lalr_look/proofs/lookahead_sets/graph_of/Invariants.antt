@@ -1,6 +1,6 @@
 use Rattle.std.proofs.Common.{◌+◌, length}
-use Rattle.lalr_look.specs.Graph.{Grows, IsSized, OfBelow}
-use Rattle.lalr_look.specs.LookGraph.{LeadsIn, OwnIn}
+use Rattle.lalr_look.specs.within.Graph.{Grows, IsSized, OfBelow}
+use Rattle.lalr_look.specs.within.LookGraph.{LeadsIn, OwnIn}
 use Rattle.lalr_look.proofs.lookahead_sets.graph_of.Given as goal
 
 abbrev pub invariant-loop-core : goal.invariant-loop-core

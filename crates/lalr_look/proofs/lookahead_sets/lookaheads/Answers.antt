@@ -1,9 +1,9 @@
 use Rattle.std.proofs.Common.{◌≡◌, ◌+◌, ◌↔◌, All, subst, sym, ap, ◌∙◌, arith, length}
 use Rattle.ck_base.specs.BitSet.{Has}
-use Rattle.lalr_look.specs.Flow.{Flows, set_at}
-use Rattle.lalr_look.specs.Rows.{rows_of}
+use Rattle.lalr_look.specs.within.Flow.{Flows, set_at}
+use Rattle.lalr_look.specs.within.Rows.{rows_of}
 use Rattle.lalr_look.specs.Promise.{sets_of}
-use Rattle.lalr_look.specs.LookGraph.{AreNodeSets}
+use Rattle.lalr_look.specs.within.LookGraph.{AreNodeSets}
 use Rattle.lalr_look.proofs.NodesOf.{leads_inside, are_lookaheads}
 use Rattle.lalr_look.proofs.CallGraph.{take_front}
 use Rattle.lalr_look.proofs.lookahead_sets.lookaheads.Goals as goal
@@ -31,3 +31,6 @@ returns c =
     (record { whole = c.in_ok-nodes.ensures; own_of = c.in_ok-graph.ensures.own; edge = c.in_ok-graph.ensures.edges })
     (λ k a. subst (λ l. Has (set_at c.spread.new.sets k) a ↔ Flows (rows_of c.in_ok-graph.graph.edges.items) l k a) c.deref_mut.ensures.value (c.in_ok-spread.ensures.flows k a))
     (subst (λ l. AreNodeSets c.args.g.now c.args.cores.now c.in_ok-nodes.nodes l (sets_of c.in_ok-looks.looks.items)) same c.in_ok-looks.ensures)
+    (c.in_ok-spread.ensures.sizes (c.args.g.now.terminals + 1)
+    (subst (λ l. All (λ set. set.size ≡ c.args.g.now.terminals + 1) l) (sym c.deref_mut.ensures.value) c.in_ok-graph.ensures.sized.sizes))
+    (let count = c.in_ok-graph.ensures.sized.sets in omega (arith, long, value, count))

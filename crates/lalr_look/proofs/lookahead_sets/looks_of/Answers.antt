@@ -1,7 +1,7 @@
 use Rattle.std.proofs.Common.{subst, sym, ◌∙◌, arith, Contains, get_or}
 use Rattle.std.proofs.lemmas.List.{get_or_default}
 use Rattle.std.proofs.lemmas.Option.{slice_get-get_or, slice_get_within}
-use Rattle.lalr_look.specs.Flow.{no_set}
+use Rattle.lalr_look.specs.within.Flow.{no_set}
 use Rattle.lalr_look.proofs.Turns.{contained}
 use Rattle.lalr_look.proofs.NodesOf.{sets_next, node_set}
 use Rattle.lalr_look.proofs.lookahead_sets.looks_of.Goals as goal

@@ -1,5 +1,5 @@
 use Rattle.std.proofs.Common.{◌+◌, ap, ◌∙◌}
-use Rattle.lalr_look.specs.Rows.{rows_of}
+use Rattle.lalr_look.specs.within.Rows.{rows_of}
 use Rattle.lalr_look.proofs.Sorting.{sorted_first, sorted_next}
 use Rattle.lalr_look.proofs.making.moved.Goals as goal
 

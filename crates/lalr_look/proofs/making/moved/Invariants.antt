@@ -1,6 +1,6 @@
 use Rattle.std.proofs.Common.{◌≡◌, ℕ, ◌+◌, length}
-use Rattle.lalr_look.specs.Rows.{rows_of, row_at}
-use Rattle.lalr_look.specs.Kernel.{Moves}
+use Rattle.lalr_look.specs.within.Rows.{rows_of, row_at}
+use Rattle.lalr_look.specs.within.Kernel.{Moves}
 use Rattle.lalr_look.proofs.making.moved.Given as goal
 
 abbrev pub invariant-loop-item : goal.invariant-loop-item

@@ -1,5 +1,5 @@
 use Rattle.std.proofs.Common.{sym, subst, arith}
-use Rattle.lalr_look.specs.Kernel.{Rows}
+use Rattle.lalr_look.specs.within.Kernel.{Rows}
 use Rattle.lalr_look.proofs.making.moves_of.Goals as goal
 
 pub loop-i-init : goal.loop-i-init

@@ -1,6 +1,6 @@
 use Rattle.std.proofs.Common.{◌≡◌, ℕ, length, ◌≤◌, ◌+◌}
-use Rattle.lalr_look.specs.Rows.{rows_of, row_at}
-use Rattle.lalr_look.specs.Kernel.{Rows, Moves}
+use Rattle.lalr_look.specs.within.Rows.{rows_of, row_at}
+use Rattle.lalr_look.specs.within.Kernel.{Rows, Moves}
 use Rattle.lalr_look.proofs.making.moves_of.Given as goal
 
 abbrev pub invariant-loop-i : goal.invariant-loop-i

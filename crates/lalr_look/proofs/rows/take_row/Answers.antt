@@ -1,5 +1,5 @@
 use Rattle.std.proofs.Common.{sym, ap, subst, slice_set}
-use Rattle.lalr_look.specs.Rows.{rows_of, Takes}
+use Rattle.lalr_look.specs.within.Rows.{rows_of, Takes}
 use Rattle.lalr_look.proofs.Flowing.{row_is}
 use Rattle.lalr_look.proofs.RowsChanged.{taken}
 use Rattle.lalr_look.proofs.rows.take_row.Goals as goal

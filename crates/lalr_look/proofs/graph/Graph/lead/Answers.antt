@@ -1,4 +1,4 @@
-use Rattle.lalr_look.specs.Rows.{rows_of}
+use Rattle.lalr_look.specs.within.Rows.{rows_of}
 use Rattle.lalr_look.proofs.Growth.{edges_push, sets_none}
 use Rattle.lalr_look.proofs.graph.Graph.lead.Goals as goal
 

@@ -1,8 +1,8 @@
 use Rattle.std.proofs.Common.{◌<◌, ◌+◌, ◌^◌, Contains, length, refl, sym, ◌∙◌, Some}
 use Rattle.std.specs.Str.{bytes_eq}
 use Rattle.std.proofs.lemmas.Slice.Eq.{bytes_eq-Decides}
-use Rattle.lalr_look.specs.Rows.{rows_of}
-use Rattle.lalr_look.specs.Numbered.{known}
+use Rattle.lalr_look.specs.within.Rows.{rows_of}
+use Rattle.lalr_look.specs.within.Numbered.{known}
 use Rattle.lalr_look.proofs.Numbering.{position-seen, finds, absent_where_none, insertion_interns, insertion_numbered}
 use Rattle.lalr_look.proofs.kernels.Kernels.number_of.Goals as goal
 

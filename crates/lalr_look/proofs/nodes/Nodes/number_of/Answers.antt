@@ -1,5 +1,5 @@
 use Rattle.std.proofs.Common.{◌≡◌, ℕ, List, [], ◌∷◌, ap, refl, ◌∙◌, ◌<◌, ◌+◌, ◌^◌, subst, subst₂, Some, slice_get, sym, Contains, length, map, arith}
-use Rattle.lalr_look.specs.Numbered.{Interns, known, AreNumbered}
+use Rattle.lalr_look.specs.within.Numbered.{Interns, known, AreNumbered}
 use Rattle.lalr_look.proofs.Numbering.{finds, absent_where_none, insertion_interns, insertion_numbered, pair_eq, pair_eq-decides}
 use Rattle.lalr_look.proofs.nodes.Nodes.number_of.Goals as goal
 

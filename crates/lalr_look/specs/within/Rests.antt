@@ -1,4 +1,4 @@
--- What is known of the symbols behind a dot. Words of this crate's own contracts.
+-- What is known of the symbols behind a dot.
 use Rattle.std.specs.Prelude.{ℕ, ◌+◌, List, [], ◌∷◌, drop}
 use Rattle.cfg_model.specs.declared.symbol.Sym.{Sym}
 use Rattle.cfg_model.specs.declared.symbol.Sym.TheVariants.{N}

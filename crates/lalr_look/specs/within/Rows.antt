@@ -1,4 +1,4 @@
--- Rows of numbers, and what the calls on them change. Words of this crate's own contracts.
+-- Rows of numbers, and what the calls on them change.
 use Rattle.std.specs.Prelude.{◌≡◌, ◌≢◌, ℕ, List, [], ◌∷◌, ◌++◌, length, slice_index_or, Vec, map}
 use Rattle.std.specs.Global.{Global}
 

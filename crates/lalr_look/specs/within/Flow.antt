@@ -1,6 +1,6 @@
 -- Numbers that flow along edges.
 use Rattle.std.specs.Prelude.{◌≡◌, ℕ, ◌⊎◌, List, [], length, Contains, slice_index_or, slice_set, Bool, true, false, IsTrue, ◌++◌, ◌∷◌, ◌↔◌}
-use Rattle.lalr_look.specs.Rows.{row_at}
+use Rattle.lalr_look.specs.within.Rows.{row_at}
 use Rattle.ck_base.specs.BitSet.{BitSet, Has, Adds, Grew}
 
 -- the set of no numbers, of size 0

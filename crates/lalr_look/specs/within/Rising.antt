@@ -1,5 +1,4 @@
--- Rising lists of numbers, and numbers in the order in which they are met. Words of this crate's own
--- contracts.
+-- Rising lists of numbers, and numbers in the order in which they are met.
 use Rattle.std.specs.Prelude.{ℕ, suc, ◌<◌, ◌≤◌, List, [], ◌∷◌, Contains}
 use Rattle.cfg_model.specs.Cores.{FirstMet}
 

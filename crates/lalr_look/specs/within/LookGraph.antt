@@ -1,5 +1,4 @@
--- The graph along which lookaheads flow. A node is the number of a core and a slot in it. Words of
--- this crate's own contracts.
+-- The graph along which lookaheads flow. A node is the number of a core and a slot in it.
 use Rattle.std.specs.Prelude.{◌≡◌, ℕ, zero, suc, ◌<◌, ◌↔◌, ◌⊎◌, List, ◌∷◌, Contains, drop, length, slice_get, Option, Some, None}
 use Rattle.ck_base.specs.BitSet.{BitSet, Has}
 use Rattle.cfg_model.specs.declared.symbol.Sym.{Sym}
@@ -8,8 +7,8 @@ use Rattle.cfg_model.specs.Cfg.{Cfg, Rule}
 use Rattle.cfg_model.specs.Sets.{First, Nullable}
 use Rattle.cfg_model.specs.Items.{right_of}
 use Rattle.cfg_model.specs.Cores.{CoreList, items_at, moves_at}
-use Rattle.lalr_look.specs.Flow.{set_at}
-use Rattle.lalr_look.specs.Kernel.{code, place_of}
+use Rattle.lalr_look.specs.within.Flow.{set_at}
+use Rattle.lalr_look.specs.within.Kernel.{code, place_of}
 use Rattle.lalr_look.specs.Promise.{sets_at}
 
 -- the slot of a rule with its dot in front: rules of one left side share theirs, since they have the

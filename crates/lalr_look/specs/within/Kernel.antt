@@ -1,14 +1,14 @@
 -- Items as numbers, kernels, and what the loops over cores leave.
 use Rattle.std.specs.Prelude.{◌≡◌, ◌≢◌, ℕ, suc, ◌+◌, ◌*◌, ◌/◌, ◌%◌, ◌<◌, ◌≤◌, ◌↔◌, List, [], ◌∷◌, ◌++◌, length, slice_get, Some, Contains, map, All}
 use Rattle.ck_base.specs.BitSet.{BitSet, Has}
-use Rattle.lalr_look.specs.Numbered.{Interns}
+use Rattle.lalr_look.specs.within.Numbered.{Interns}
 use Rattle.cfg_model.specs.declared.symbol.Sym.{Sym}
 use Rattle.cfg_model.specs.declared.symbol.Sym.TheVariants.{T, N}
 use Rattle.cfg_model.specs.Cfg.{Cfg, Rule, IsRule, IsSymbol}
 use Rattle.cfg_model.specs.Items.{Item, right_of}
-use Rattle.lalr_look.specs.Rows.{row_at}
+use Rattle.lalr_look.specs.within.Rows.{row_at}
 use Rattle.cfg_model.specs.Cores.{CoreList, items_at, moves_at, Rising, targets}
-use Rattle.lalr_look.specs.Rising.{Met, Climbs}
+use Rattle.lalr_look.specs.within.Rising.{Met, Climbs}
 
 -- right sides are short enough for items to be numbers
 abbrev pub AreShort : Cfg → Type 0

@@ -1,5 +1,4 @@
--- Values with numbers: a list without doubles, in which a value's number is its place. Words of this
--- crate's own contracts.
+-- Values with numbers: a list without doubles, in which a value's number is its place.
 use Rattle.std.specs.Prelude.{◌≡◌, ℕ, ◌^◌, ◌<◌, List, [], ◌∷◌, ◌++◌, length, Some, Contains, slice_get}
 
 -- no value is there twice

@@ -1,10 +1,9 @@
--- Graphs that grow: edges between nodes, and numbers that nodes have. Words of this crate's own
--- contracts.
+-- Graphs that grow: edges between nodes, and numbers that nodes have.
 use Rattle.std.specs.Prelude.{◌≡◌, ℕ, ◌<◌, ◌⊎◌, List, All, length, slice_get, Some}
 use Rattle.ck_base.specs.BitSet.{BitSet, Has}
 use Rattle.lalr_look.specs.declared.graph.Graph.{Graph}
-use Rattle.lalr_look.specs.Flow.{Edge, set_at}
-use Rattle.lalr_look.specs.Rows.{rows_of}
+use Rattle.lalr_look.specs.within.Flow.{Edge, set_at}
+use Rattle.lalr_look.specs.within.Rows.{rows_of}
 
 -- the new relation is the old one with P
 pub record Gains (old new P : ℕ → ℕ → Type 0) : Type 0 where
