@@ -69,8 +69,8 @@ many_cores g cores k are past =
 -- S = X has three cores, so in its table none of them has two states
 no_fourth_state : (table : PlainLr) → IsTableOf (run_of 1) table → (answers_of table).states ≡ 4 → ⊥
 no_fourth_state table is four =
-    let counted = is.counted in
-    no_more_cores 1 (many_cores (run_of 1) is.cores 3 is.are (omega (arith, counted, four)))
+    let counted = is.of_cores.counted in
+    no_more_cores 1 (many_cores (run_of 1) is.cores 3 is.of_cores.are (omega (arith, counted, four)))
 
 -- too many cores are told, and no conflict beside them
 cores_before_conflicts : (g : Cfg) (t r : ℕ) (other : Option ℕ) → HasMoreCores g 4096 → IsRefused g (refused.LalrConflict t r other) → ⊥

@@ -64,7 +64,7 @@ module _ (moves : List (Sym × ℕ)) where
 
   goto_kept : (i n c : ℕ) (x : Sym) (k : ℕ) → slice_get moves i ≡ Some (x, k) → (N n ≡ x → ⊥) → GotoIs (λ n. AmongFirst moves i (N n)) n c
       → GotoIs (λ n. AmongFirst moves (i + 1) (N n)) n c
-  goto_kept i n c x k at other (nowhere none) = nowhere (λ m there. none m (among_last i (N n) x m k at other there))
+  goto_kept i n c x k at other (nowhere zero_is none) = nowhere zero_is (λ m there. none m (among_last i (N n) x m k at other there))
   goto_kept i n c x k at other (leads there) = leads (among_more i (N n) c there)
 
   goto_here : (i s k width : ℕ) (old : List ℕ) → slice_get moves i ≡ Some (N s, k) → s < length old
@@ -95,5 +95,5 @@ module _ (moves : List (Sym × ℕ)) where
   gotos_all i width cells all is n low = go (is n low)
     where
       go : GotoIs (λ n. AmongFirst moves i (N n)) n (slice_index cells n) → GotoIs (OverNonterminal moves) n (slice_index cells n)
-      go (nowhere none) = nowhere (λ m there. none m (all_among i (N n) m all there))
+      go (nowhere zero_is none) = nowhere zero_is (λ m there. none m (all_among i (N n) m all there))
       go (leads there) = leads (among_all i (N n) (slice_index cells n) all there)

@@ -1,8 +1,8 @@
-// A law, on an empty function: a grammar has one LALR(1) table or one refusal.
-ghost use Rattle.std.specs.Prelude.{◌≡◌, ◌≢◌};
-ghost use Rattle.cfg_model.specs.Cfg.{IsGrammar};
+// Laws on tables and refusals, on empty functions.
+ghost use Rattle.std.specs.Prelude.{◌≡◌, ◌≢◌, ◌≤◌, ℕ, Option, Some};
+ghost use Rattle.cfg_model.specs.Cfg.{Cfg, IsGrammar};
 ghost use Rattle.cfg_model.specs.declared.refused.LalrError.{LalrError};
-ghost use Rattle.cfg_model.specs.declared.refused.LalrError.TheVariants.{NoMemory};
+ghost use Rattle.cfg_model.specs.declared.refused.LalrError.TheVariants.{LalrConflict, NoMemory};
 ghost use Rattle.lalr_tables.specs.Promise.{HasTable, IsRefused};
 
 use cfg_model::Grammar;
@@ -16,4 +16,12 @@ pub fn one_answer(g: &Grammar)
     ensures not_both { (e : LalrError) → e ≢ NoMemory → HasTable g.now → IsRefused g.now e → ⊥ }
     ensures some { (HasTable g.now → ⊥)
         → ((e : LalrError) → e ≢ NoMemory → IsRefused g.now e → ⊥) → ⊥ }
+{}
+
+/// Law: the rules of a conflict for which a grammar is refused are rules of the grammar, so each has a
+/// label: they count from 1.
+pub fn conflicts_are_of_rules()
+    ensures rule { (g : Cfg) (t r : ℕ) (other : Option ℕ) → IsGrammar g
+        → IsRefused g (LalrConflict t r other) → 1 ≤ r }
+    ensures other { (g : Cfg) (t r s : ℕ) → IsGrammar g → IsRefused g (LalrConflict t r (Some s)) → 1 ≤ s }
 {}

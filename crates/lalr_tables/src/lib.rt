@@ -19,6 +19,6 @@ mod making;
 mod plain;
 mod rows;
 
-pub use laws::one_answer;
+pub use laws::{conflicts_are_of_rules, one_answer};
 pub use making::build;
 pub use plain::PlainLr;

@@ -91,9 +91,9 @@ abbrev pub PutsGoto : Sym → ℕ → List ℕ → List ℕ → Type 0
 PutsGoto (T t) m old new = new ≡ old
 PutsGoto (N n) m old new = new ≡ slice_set old n m
 
--- what a cell of a goto says of its nonterminal
+-- what a cell of a goto says of its nonterminal; 0 where no move is over it
 pub data GotoIs (S : ℕ → ℕ → Type 0) (n cell : ℕ) : Type 0 where
-  nowhere : ((m : ℕ) → S n m → ⊥) → GotoIs S n cell
+  nowhere : cell ≡ 0 → ((m : ℕ) → S n m → ⊥) → GotoIs S n cell
   leads : S n cell → GotoIs S n cell
 
 -- each nonterminal's cell is its goto
