@@ -10,8 +10,7 @@ use Rattle.spec_text.proofs.Lists.{take_step, take_all, get_at, map_get}
 use Rattle.node_spec.specs.AstShapes.{AstSaying, family, target, a_type, node, build}
 use Rattle.node_spec.specs.AstTables.{family_then, families_in, family_names}
 use Rattle.node_spec.specs.AstFaults.{label_then, labels_in, name_then, names_in, node_then, nodes_in}
-use Rattle.node_spec.specs.declared.ast_line.AstLine.{AstLine}
-use Rattle.node_spec.specs.within.AstSeen.{declared_by}
+use Rattle.node_spec.specs.within.AstSeen.{AstLine, declared_by}
 use Rattle.node_spec.specs.within.AstUnknown.{type_then, types_in}
 
 -- the line of the program at a place

@@ -17,9 +17,8 @@ use Rattle.spec_text.proofs.Lists.{map_get, get_at, take_all}
 use Rattle.node_spec.specs.AstShapes.{AstSaying, SaidItem, family, target, a_type, node, build}
 use Rattle.node_spec.specs.AstTables.{Row, families_in, family_names, family_number, item_of, rows_in}
 use Rattle.node_spec.specs.AstFaults.{AstFault, row_at, too_many_families, too_many_types, too_many_children, too_many_fields}
-use Rattle.node_spec.specs.within.AstSeen.{declared_by, item_seen}
+use Rattle.node_spec.specs.within.AstSeen.{AstLine, declared_by, item_seen}
 use Rattle.node_spec.specs.within.AstWalks.{HasTooMany, IsPastLimit, child_said, families_said, item_word, row_number, types_said}
-use Rattle.node_spec.specs.declared.ast_line.AstLine.{AstLine}
 use Rattle.node_spec.specs.declared.ast_line.ItemText.{ItemText}
 use Rattle.node_spec.proofs.ItemWords.{word_by}
 use Rattle.node_spec.proofs.AstRowLists.{next_family_count, next_type_count, row_here}

@@ -11,11 +11,10 @@ use Rattle.section_frame.specs.Declares.{Declared}
 use Rattle.spec_text.proofs.Lists.{take_all, get_at, get_fits, map_get}
 use Rattle.node_spec.specs.AstShapes.{AstSaying, SaidItem, family, target, a_type, node, build}
 use Rattle.node_spec.specs.AstTables.{Row, row_after, row_names, row_of, row_over, rows_in}
-use Rattle.node_spec.specs.declared.ast_line.AstLine.{AstLine}
 use Rattle.node_spec.specs.declared.ast_line.ItemText.{ItemText}
 use Rattle.node_spec.specs.declared.rows.FirstRows.{FirstRows}
 use Rattle.node_spec.specs.declared.rows.TypeRow.{TypeRow}
-use Rattle.node_spec.specs.within.AstSeen.{declared_by, item_seen, row_seen}
+use Rattle.node_spec.specs.within.AstSeen.{AstLine, declared_by, item_seen, row_seen}
 use Rattle.node_spec.specs.within.AstTwice.{AreFirstRows, first_row, row_numbered, rows_after}
 use Rattle.node_spec.proofs.AstLists.{get_in_front, get_at_end, rows_in-step}
 

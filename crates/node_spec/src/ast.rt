@@ -9,13 +9,14 @@ ghost use Rattle.node_spec.specs.AstPromise.{DeclaresNodes, IsAstFault};
 ghost use Rattle.value_store.specs.Texts.{Grew};
 ghost use Rattle.node_model.specs.Nodes.{FitGrammar, nodes_of};
 
-use crate::ast_line::ast_lines;
 use crate::ast_names::declared_names;
 use crate::ast_nodes::declared_nodes;
+use crate::line_shapes::AstLines;
 use bumpalo::Bump;
 use cfg_model::NamedGrammar;
 use ck_base::SpecFault;
 use node_model::NodeSpec;
+use section_frame::declared_lines;
 use spec_text::{Section, SectionText, Sections, section_of};
 use std::alloc::Global;
 use value_store::Literals;
@@ -54,7 +55,7 @@ pub fn read_ast<'a>(
 {
     let section = ast_of(s);
     let texts = Bump::new(alloc);
-    let list = ast_lines(alloc, &texts, spec, section.lines)?;
+    let list = declared_lines(alloc, &texts, spec, section.lines, &AstLines)?;
     let list = list.as_slice();
     let names = declared_names(alloc, g, section.head, list)?;
     let nodes = declared_nodes(alloc, arena, g, section.head, list, &names, literals)?;

@@ -9,13 +9,14 @@ ghost use Rattle.node_spec.specs.AstTables.{rows_in};
 ghost use Rattle.node_spec.specs.within.AstSeen.{declared_by, row_seen};
 ghost use Rattle.node_spec.specs.within.AstSteps.{AreFamilies, HasIn, HasNone, IsBefore, IsFirstOf};
 
-use crate::ast_line::AstLine;
+use crate::ast_line::Saying;
 use crate::families::{Families, families_of, type_names_of};
 use crate::rows::{TypeRow, rows_of};
 use crate::twice::first_twice;
 use crate::undeclared::first_unknown;
 use cfg_model::NamedGrammar;
 use ck_base::{Kind, SpecFault};
+use section_frame::Numbered;
 use std::alloc::Global;
 
 /// The types that the lines declare, by names, and the families.
@@ -31,7 +32,7 @@ pub(crate) fn declared_names<'s>(
     alloc: Global,
     g: &NamedGrammar,
     head: u32,
-    list: &[AstLine<'s>],
+    list: &[Numbered<Saying<'s>>],
 ) -> Result<AstNames<'s>, SpecFault>
     requires few { length list.now + 1 < 2 ^ 32 }
     requires grow { Grow (map declared_by list.now) }

@@ -19,7 +19,7 @@ ghost use Rattle.node_spec.specs.within.AstSeen.{declared_by, row_seen};
 ghost use Rattle.node_spec.specs.within.AstSteps.{AreFamilies, HasIn, HasNone, IsBefore, IsFirstOf};
 ghost use Rattle.node_spec.specs.within.AstStages.{IsLeastTyping, earlier_or};
 
-use crate::ast_line::AstLine;
+use crate::ast_line::Saying;
 use crate::ast_names::AstNames;
 use crate::builds::{Found, builds_of};
 use crate::families::node_families;
@@ -32,6 +32,7 @@ use cfg_model::NamedGrammar;
 use ck_base::{Kind, SpecFault};
 use expr_lang::Expr;
 use node_model::NodeSpec;
+use section_frame::Numbered;
 use std::alloc::Global;
 use value_store::Literals;
 
@@ -42,7 +43,7 @@ pub(crate) fn declared_nodes<'a>(
     arena: &'a Bump<Global>,
     g: &NamedGrammar,
     head: u32,
-    list: &[AstLine<'_>],
+    list: &[Numbered<Saying<'_>>],
     names: &AstNames<'_>,
     literals: &mut Literals,
 ) -> Result<NodeSpec<'a>, SpecFault>
@@ -107,7 +108,7 @@ fn typed_builds<'a>(
     arena: &'a Bump<Global>,
     g: &NamedGrammar,
     head: u32,
-    list: &[AstLine<'_>],
+    list: &[Numbered<Saying<'_>>],
     names: &AstNames<'_>,
     types: &Types,
     nodes: &[u32],

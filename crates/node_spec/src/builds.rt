@@ -15,7 +15,7 @@ ghost use Rattle.node_spec.specs.within.AstBuildSteps.{AreBuildWords, Puts};
 ghost use Rattle.node_spec.specs.within.AstBuilt.{IsBuilds};
 ghost use Rattle.node_spec.specs.within.AstSeen.{declared_by, saying_seen};
 
-use crate::ast_line::{AstLine, Saying};
+use crate::ast_line::Saying;
 use crate::build::{BuildWords, built};
 use crate::dollar_names::dollar_names;
 use crate::only_nonterminal::only_nonterminal;
@@ -25,6 +25,7 @@ use cfg_model::{GrammarRule, NamedGrammar};
 use ck_base::NoMemory;
 use expr_lang::Expr;
 use node_model::makers_of;
+use section_frame::Numbered;
 use std::alloc::Global;
 use value_store::Literals;
 
@@ -43,7 +44,7 @@ pub(crate) fn builds_of<'a>(
     alloc: Global,
     arena: &'a Bump<Global>,
     g: &NamedGrammar,
-    list: &[AstLine<'_>],
+    list: &[Numbered<Saying<'_>>],
     types: &Types,
     node_families: &[u32],
     literals: &mut Literals,

@@ -7,8 +7,9 @@ ghost use Rattle.node_spec.specs.within.AstSeen.{declared_by, saying_seen};
 ghost use Rattle.node_spec.specs.within.AstSteps.{FirstWith};
 ghost use Rattle.node_spec.specs.within.AstTwice.{IsAgain, IsMet, Meets, name_said, names_said};
 
-use crate::ast_line::{AstLine, Saying};
+use crate::ast_line::Saying;
 use ck_base::{Names, NoMemory};
+use section_frame::Numbered;
 use std::alloc::Global;
 
 /// What lines declare by names of which none may be there twice.
@@ -26,7 +27,7 @@ pub(crate) enum Sort {
 pub(crate) fn first_again(
     alloc: Global,
     sort: Sort,
-    list: &[AstLine<'_>],
+    list: &[Numbered<Saying<'_>>],
 ) -> Result<Option<u32>, NoMemory>
     requires few { length list.now + 1 < 2 ^ 32 }
     requires grow { Grow (map declared_by list.now) }

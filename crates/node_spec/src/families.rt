@@ -9,11 +9,12 @@ ghost use Rattle.node_spec.specs.within.AstSeen.{declared_by, saying_seen};
 ghost use Rattle.node_spec.specs.within.AstSteps.{AreFamilies};
 ghost use Rattle.node_spec.specs.within.AstUnknown.{AreNodes, family_after};
 
-use crate::ast_line::{AstLine, Saying};
+use crate::ast_line::Saying;
 use crate::names_of_lines::types_named;
 use crate::node_lines::{NodeLines, node_lines};
 use cfg_model::NamedGrammar;
 use ck_base::{Names, NoMemory};
+use section_frame::Numbered;
 use std::alloc::Global;
 
 /// Families, by number: their names, and which are of the target side.
@@ -33,7 +34,10 @@ impl Families {
 }
 
 /// The families that the lines declare, none of which is there twice.
-pub(crate) fn families_of(alloc: Global, list: &[AstLine<'_>]) -> Result<Families, NoMemory>
+pub(crate) fn families_of(
+    alloc: Global,
+    list: &[Numbered<Saying<'_>>],
+) -> Result<Families, NoMemory>
     requires apart { AreApart (names_in (map declared_by list.now)) }
     requires few { length list.now + 1 < 2 ^ 32 }
     ensures { IfOk result (AreFamilies (map declared_by list.now)) }
@@ -80,7 +84,7 @@ fn put_family(
 }
 
 /// The names of the types that the lines declare, none of which is there twice.
-pub(crate) fn type_names_of(alloc: Global, list: &[AstLine<'_>]) -> Result<Names, NoMemory>
+pub(crate) fn type_names_of(alloc: Global, list: &[Numbered<Saying<'_>>]) -> Result<Names, NoMemory>
     requires apart { AreApart (names_in (map declared_by list.now)) }
     requires few { length list.now + 1 < 2 ^ 32 }
     ensures { IfOk result (λ names. names ≡ type_names (map declared_by list.now)) }
@@ -95,7 +99,7 @@ pub(crate) fn node_families(
     alloc: Global,
     g: &NamedGrammar,
     families: &Families,
-    list: &[AstLine<'_>],
+    list: &[Numbered<Saying<'_>>],
 ) -> Result<Vec<u32>, NoMemory>
     requires are { AreFamilies (map declared_by list.now) families.now }
     requires few { length list.now + 1 < 2 ^ 32 }

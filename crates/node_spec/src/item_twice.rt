@@ -6,16 +6,17 @@ ghost use Rattle.node_spec.specs.within.AstSeen.{declared_by, item_seen, row_see
 ghost use Rattle.node_spec.specs.within.AstSteps.{FirstWith};
 ghost use Rattle.node_spec.specs.within.AstTwice.{HasDouble, HasItemTwice, RepeatsItem};
 
-use crate::ast_line::{AstLine, ItemText, Saying};
+use crate::ast_line::{ItemText, Saying};
 use crate::declared_again::is_met;
 use crate::rows::TypeRow;
 use ck_base::{Names, NoMemory};
+use section_frame::Numbered;
 use std::alloc::Global;
 
 /// The first line whose type has a name twice among its items, those of its base included.
 pub(crate) fn first_item_twice(
     alloc: Global,
-    list: &[AstLine<'_>],
+    list: &[Numbered<Saying<'_>>],
     rows: &[TypeRow<'_>],
 ) -> Result<Option<u32>, NoMemory>
     requires few { length list.now + 1 < 2 ^ 32 }

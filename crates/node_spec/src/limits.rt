@@ -11,13 +11,14 @@ ghost use Rattle.node_spec.specs.within.AstSeen.{declared_by, item_seen, row_see
 ghost use Rattle.node_spec.specs.within.AstSteps.{HasNone};
 ghost use Rattle.node_spec.specs.within.AstWalks.{HasTooMany, IsPastLimit, child_said, families_said, item_word, row_number, types_said};
 
-use crate::ast_line::{AstLine, ItemText, Saying};
+use crate::ast_line::{ItemText, Saying};
 use crate::rows::TypeRow;
 use expr_read::type_of_word;
+use section_frame::Numbered;
 
 /// The first line by which there are more than 128 families or 512 types, or whose type has more
 /// than 8 children or 8 fields.
-pub(crate) fn first_past_limit(list: &[AstLine<'_>], rows: &[TypeRow<'_>]) -> Option<u32>
+pub(crate) fn first_past_limit(list: &[Numbered<Saying<'_>>], rows: &[TypeRow<'_>]) -> Option<u32>
     requires few { length list.now + 1 < 2 ^ 32 }
     requires grow { Grow (map declared_by list.now) }
     requires rows { map row_seen rows.now ≡ rows_in (map declared_by list.now) }
@@ -37,7 +38,12 @@ pub(crate) fn first_past_limit(list: &[AstLine<'_>], rows: &[TypeRow<'_>]) -> Op
 }
 
 /// Whether the line, behind so many families and types, is past a limit.
-fn is_past_limit(line: &AstLine<'_>, rows: &[TypeRow<'_>], families: u32, types: u32) -> bool
+fn is_past_limit(
+    line: &Numbered<Saying<'_>>,
+    rows: &[TypeRow<'_>],
+    families: u32,
+    types: u32,
+) -> bool
     ensures { IsTrue result ↔ IsPastLimit families types
         (row_number (map row_seen rows.now) types) (saying_seen line.now.says) }
 {
@@ -51,7 +57,7 @@ fn is_past_limit(line: &AstLine<'_>, rows: &[TypeRow<'_>], families: u32, types:
 }
 
 /// How many families the line declares.
-fn families_of_line(line: &AstLine<'_>) -> u32
+fn families_of_line(line: &Numbered<Saying<'_>>) -> u32
     ensures { result ≡ families_said (saying_seen line.now.says) }
 {
     match line.says {
@@ -64,7 +70,7 @@ fn families_of_line(line: &AstLine<'_>) -> u32
 }
 
 /// How many types the line declares.
-pub(crate) fn types_of_line(line: &AstLine<'_>) -> u32
+pub(crate) fn types_of_line(line: &Numbered<Saying<'_>>) -> u32
     ensures { result ≡ types_said (saying_seen line.now.says) }
 {
     match line.says {

@@ -14,35 +14,47 @@ use crate::line_items::items_within;
 use bumpalo::Bump;
 use ck_base::NoMemory;
 use expr_read::{Written, read_written};
-use section_frame::{after_sign, after_word, name_of};
+use section_frame::{Shapes, after_sign, after_word, name_of};
 use spec_text::Token;
 use std::alloc::Global;
 
-/// What the tokens of a whole line declare.
-pub(crate) fn saying_of<'s>(
-    texts: &'s Bump<Global>,
-    tokens: &[Token<'s>],
-) -> Result<Option<Saying<'s>>, NoMemory>
-    ensures { IfOk result (λ found. MatchOption found
-        ((said : AstSaying) → AstShape (map seen tokens.now) said → ⊥)
-        (λ said. AstShape (map seen tokens.now) (saying_seen said))) }
-{
-    if let Some(name) = name_behind(tokens, b"FAMILY") {
-        return Ok(Some(Saying::Family(name)));
+/// How lines of AST are written.
+#[derive(Clone, Copy)]
+pub(crate) struct AstLines;
+
+impl<'s> Shapes<'s, Saying<'s>> for AstLines {
+    ghost use Rattle.node_spec.specs.AstShapes.{AstSaying, AstShape};
+    ghost use Rattle.node_spec.specs.within.AstSeen.{saying_seen};
+
+    ghost Said = { AstSaying };
+
+    ghost seen = { saying_seen };
+
+    ghost shape = { AstShape };
+
+    fn saying_of(
+        &self,
+        _alloc: Global,
+        texts: &'s Bump<Global>,
+        tokens: &[Token<'s>],
+    ) -> Result<Option<Saying<'s>>, NoMemory> {
+        if let Some(name) = name_behind(tokens, b"FAMILY") {
+            return Ok(Some(Saying::Family(name)));
+        }
+        if let Some(name) = name_behind(tokens, b"TARGET") {
+            return Ok(Some(Saying::Target(name)));
+        }
+        if let Some((name, base, items)) = type_line(texts, tokens)? {
+            return Ok(Some(Saying::NodeType(name, base, items)));
+        }
+        if let Some((nonterminal, name)) = node_line(tokens) {
+            return Ok(Some(Saying::Node(nonterminal, name)));
+        }
+        let Some((label, built)) = build_line(texts, tokens)? else {
+            return Ok(None);
+        };
+        Ok(Some(Saying::Build(label, built)))
     }
-    if let Some(name) = name_behind(tokens, b"TARGET") {
-        return Ok(Some(Saying::Target(name)));
-    }
-    if let Some((name, base, items)) = type_line(texts, tokens)? {
-        return Ok(Some(Saying::NodeType(name, base, items)));
-    }
-    if let Some((nonterminal, name)) = node_line(tokens) {
-        return Ok(Some(Saying::Node(nonterminal, name)));
-    }
-    let Some((label, built)) = build_line(texts, tokens)? else {
-        return Ok(None);
-    };
-    Ok(Some(Saying::Build(label, built)))
 }
 
 /// The name that a line declares which has this word, a name, and no more.

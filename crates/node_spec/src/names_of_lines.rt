@@ -5,8 +5,9 @@ ghost use Rattle.node_spec.specs.AstFaults.{label_then, name_then, node_then, la
 ghost use Rattle.node_spec.specs.within.AstSeen.{declared_by, saying_seen};
 ghost use Rattle.node_spec.specs.within.AstUnknown.{named, type_then, types_in};
 
-use crate::ast_line::{AstLine, Saying};
+use crate::ast_line::Saying;
 use ck_base::{Names, NoMemory};
+use section_frame::Numbered;
 use std::alloc::Global;
 
 /// Puts the name, if there is one, behind those that are there, unless it is one of them.
@@ -74,7 +75,7 @@ fn build_label<'s>(says: &Saying<'s>) -> Option<&'s [u8]>
 }
 
 /// The names of the types that the lines declare, each once.
-pub(crate) fn types_named(alloc: Global, list: &[AstLine<'_>]) -> Result<Names, NoMemory>
+pub(crate) fn types_named(alloc: Global, list: &[Numbered<Saying<'_>>]) -> Result<Names, NoMemory>
     requires { length list.now + 1 < 2 ^ 32 }
     ensures { IfOk result (λ names. names ≡ met [] (types_in (map declared_by list.now))) }
 {
@@ -86,7 +87,7 @@ pub(crate) fn types_named(alloc: Global, list: &[AstLine<'_>]) -> Result<Names, 
 }
 
 /// The nonterminals that have NODE lines, each once.
-pub(crate) fn nodes_named(alloc: Global, list: &[AstLine<'_>]) -> Result<Names, NoMemory>
+pub(crate) fn nodes_named(alloc: Global, list: &[Numbered<Saying<'_>>]) -> Result<Names, NoMemory>
     requires { length list.now + 1 < 2 ^ 32 }
     ensures { IfOk result (λ names. names ≡ met [] (nodes_in (map declared_by list.now))) }
 {
@@ -98,7 +99,7 @@ pub(crate) fn nodes_named(alloc: Global, list: &[AstLine<'_>]) -> Result<Names, 
 }
 
 /// The labels that have BUILD lines, each once.
-pub(crate) fn labels_named(alloc: Global, list: &[AstLine<'_>]) -> Result<Names, NoMemory>
+pub(crate) fn labels_named(alloc: Global, list: &[Numbered<Saying<'_>>]) -> Result<Names, NoMemory>
     requires { length list.now + 1 < 2 ^ 32 }
     ensures { IfOk result (λ names. names ≡ met [] (labels_in (map declared_by list.now))) }
 {

@@ -5,9 +5,10 @@ ghost use Rattle.node_spec.specs.AstShapes.{AstSaying, node};
 ghost use Rattle.node_spec.specs.within.AstSeen.{declared_by, saying_seen};
 ghost use Rattle.node_spec.specs.within.AstUnknown.{AreNodes, NotesNode, family_after};
 
-use crate::ast_line::{AstLine, Saying};
+use crate::ast_line::Saying;
 use crate::families::Families;
 use ck_base::{Names, NoMemory};
+use section_frame::Numbered;
 use std::alloc::Global;
 
 /// The nonterminals that have NODE lines, and the number of the family that the first line of each
@@ -22,7 +23,7 @@ pub(crate) struct NodeLines {
 pub(crate) fn node_lines(
     alloc: Global,
     families: &Families,
-    list: &[AstLine<'_>],
+    list: &[Numbered<Saying<'_>>],
 ) -> Result<NodeLines, NoMemory>
     requires { length list.now + 1 < 2 ^ 32 }
     ensures { IfOk result (AreNodes families.now.names (map declared_by list.now)) }

@@ -8,7 +8,8 @@ ghost use Rattle.node_spec.specs.within.AstSeen.{declared_by, item_seen, saying_
 ghost use Rattle.node_spec.specs.within.AstSteps.{FirstWith};
 ghost use Rattle.node_spec.specs.within.AstTwice.{HasReserved, IsReserved};
 
-use crate::ast_line::{AstLine, ItemText, Saying};
+use crate::ast_line::{ItemText, Saying};
+use section_frame::Numbered;
 
 /// The words that no family, type or item may be called by.
 const RESERVED: [&[u8]; 17] = [
@@ -17,7 +18,7 @@ const RESERVED: [&[u8]; 17] = [
 ];
 
 /// The first line that calls a family, a type or an item by a reserved word.
-pub(crate) fn first_reserved(list: &[AstLine<'_>]) -> Option<u32>
+pub(crate) fn first_reserved(list: &[Numbered<Saying<'_>>]) -> Option<u32>
     requires { Grow (map declared_by list.now) }
     ensures { FirstWith (map declared_by list.now) IsReserved result }
 {

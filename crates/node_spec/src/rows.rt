@@ -5,8 +5,9 @@ ghost use Rattle.node_spec.specs.AstTables.{row_after, row_names, row_over, rows
 ghost use Rattle.node_spec.specs.within.AstSeen.{declared_by, item_seen, row_seen, saying_seen};
 ghost use Rattle.node_spec.specs.within.AstTwice.{AreFirstRows, first_row, rows_after};
 
-use crate::ast_line::{AstLine, ItemText, Saying};
+use crate::ast_line::{ItemText, Saying};
 use ck_base::{Names, NoMemory};
+use section_frame::Numbered;
 use std::alloc::Global;
 
 /// A type by names: its own, its family's, the number of the type that it extends, if any, and all
@@ -53,7 +54,10 @@ impl FirstRows {
 
 /// The types that the lines declare, in their order. A base is the first type of its name among
 /// the lines before.
-pub(crate) fn rows_of<'s>(alloc: Global, list: &[AstLine<'s>]) -> Result<Vec<TypeRow<'s>>, NoMemory>
+pub(crate) fn rows_of<'s>(
+    alloc: Global,
+    list: &[Numbered<Saying<'s>>],
+) -> Result<Vec<TypeRow<'s>>, NoMemory>
     requires { length list.now < 2 ^ 32 }
     ensures { IfOk result (λ rows.
         map row_seen rows.items ≡ rows_in (map declared_by list.now)) }

@@ -6,19 +6,20 @@ ghost use Rattle.node_spec.specs.within.AstSeen.{declared_by, item_seen, row_see
 ghost use Rattle.node_spec.specs.within.AstSteps.{AreFamilies};
 ghost use Rattle.node_spec.specs.within.AstWalks.{FitsRow, with_family};
 
-use crate::ast_line::{AstLine, ItemText, Saying};
+use crate::ast_line::{ItemText, Saying};
 use crate::families::Families;
 use crate::rows::TypeRow;
 use ast_types::{Item, Types};
 use ck_base::{Name, NoMemory};
 use expr_read::type_of_word;
+use section_frame::Numbered;
 use std::alloc::Global;
 use value_store::ValType;
 
 /// The table of the families and types that the lines declare, each of a family that is there.
 pub(crate) fn table_of(
     alloc: Global,
-    list: &[AstLine<'_>],
+    list: &[Numbered<Saying<'_>>],
     families: &Families,
     rows: &[TypeRow<'_>],
 ) -> Result<Types, NoMemory>
@@ -38,7 +39,7 @@ pub(crate) fn table_of(
 }
 
 /// Adds the families that the lines declare.
-fn add_families(list: &[AstLine<'_>], types: &mut Types) -> Result<(), NoMemory>
+fn add_families(list: &[Numbered<Saying<'_>>], types: &mut Types) -> Result<(), NoMemory>
     requires few { length list.now + 1 < 2 ^ 32 }
     requires empty { types.old ≡ record { families = []; types = [] } }
     ensures { OnOk result (types.new ≡ record {
@@ -53,7 +54,7 @@ fn add_families(list: &[AstLine<'_>], types: &mut Types) -> Result<(), NoMemory>
 }
 
 /// Adds the family that the line declares, if it does.
-fn add_family_of(line: &AstLine<'_>, types: &mut Types) -> Result<(), NoMemory>
+fn add_family_of(line: &Numbered<Saying<'_>>, types: &mut Types) -> Result<(), NoMemory>
     requires { length types.old.families + 1 < 2 ^ 32 }
     ensures { OnOk result (types.new ≡ with_family types.old (saying_seen line.now.says)) }
 {

@@ -9,7 +9,7 @@ ghost use Rattle.node_spec.specs.AstTables.{rows_in};
 ghost use Rattle.node_spec.specs.within.AstSeen.{declared_by, row_seen};
 ghost use Rattle.node_spec.specs.within.AstSteps.{HasNone};
 
-use crate::ast_line::AstLine;
+use crate::ast_line::Saying;
 use crate::declared_again::{Sort, first_again};
 use crate::earlier::earlier;
 use crate::item_twice::first_item_twice;
@@ -18,6 +18,7 @@ use crate::rows::TypeRow;
 use crate::used_twice::first_used_twice;
 use cfg_model::NamedGrammar;
 use ck_base::NoMemory;
+use section_frame::Numbered;
 use std::alloc::Global;
 
 /// The first line that declares again what is declared, names by a reserved word, or uses a
@@ -25,7 +26,7 @@ use std::alloc::Global;
 pub(crate) fn first_twice(
     alloc: Global,
     g: &NamedGrammar,
-    list: &[AstLine<'_>],
+    list: &[Numbered<Saying<'_>>],
     rows: &[TypeRow<'_>],
 ) -> Result<Option<u32>, NoMemory>
     requires few { length list.now + 1 < 2 ^ 32 }

@@ -7,7 +7,7 @@ ghost use Rattle.node_spec.specs.AstTables.{type_names};
 ghost use Rattle.node_spec.specs.within.AstSeen.{declared_by};
 ghost use Rattle.node_spec.specs.within.AstSteps.{AreFamilies, HasIn, IsBefore};
 
-use crate::ast_line::AstLine;
+use crate::ast_line::Saying;
 use crate::earlier::earlier;
 use crate::families::Families;
 use crate::unknown_head::is_head_unknown;
@@ -16,6 +16,7 @@ use crate::unknown_lines::{
 };
 use cfg_model::NamedGrammar;
 use ck_base::{Names, NoMemory};
+use section_frame::Numbered;
 use std::alloc::Global;
 
 /// The first line that names what isn't declared. It is the line of the section's head where a
@@ -24,7 +25,7 @@ pub(crate) fn first_unknown(
     alloc: Global,
     g: &NamedGrammar,
     head: u32,
-    list: &[AstLine<'_>],
+    list: &[Numbered<Saying<'_>>],
     families: &Families,
     types: &Names,
 ) -> Result<Option<u32>, NoMemory>

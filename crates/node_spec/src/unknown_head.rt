@@ -7,13 +7,14 @@ ghost use Rattle.node_spec.specs.within.AstSeen.{declared_by};
 ghost use Rattle.node_spec.specs.within.AstSteps.{AreFamilies};
 ghost use Rattle.node_spec.specs.within.AstUnknown.{HasNoOnly, IsSource, LacksBuild, LacksFamily, OneLacksBuild, OneLacksFamily};
 
-use crate::ast_line::AstLine;
+use crate::ast_line::Saying;
 use crate::families::Families;
 use crate::names_of_lines::{labels_named, nodes_named};
 use crate::only_nonterminal::only_place;
 use crate::unknown_lines::is_missing;
 use cfg_model::{Grammar, GrammarRule, NamedGrammar};
 use ck_base::{Names, NoMemory};
+use section_frame::Numbered;
 use std::alloc::Global;
 
 /// Whether a nonterminal has no family, or a rule builds nothing.
@@ -21,7 +22,7 @@ pub(crate) fn is_head_unknown(
     alloc: Global,
     g: &NamedGrammar,
     families: &Families,
-    list: &[AstLine<'_>],
+    list: &[Numbered<Saying<'_>>],
 ) -> Result<bool, NoMemory>
     requires few { length list.now + 1 < 2 ^ 32 }
     requires families { AreFamilies (map declared_by list.now) families.now }

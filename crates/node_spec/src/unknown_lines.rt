@@ -5,17 +5,18 @@ ghost use Rattle.node_spec.specs.within.AstSeen.{declared_by, item_seen, saying_
 ghost use Rattle.node_spec.specs.within.AstSteps.{FirstWith};
 ghost use Rattle.node_spec.specs.within.AstUnknown.{BaseFault, BuildFault, HasNoBase, HasNoItemType, HasUnknownItem, IsUnknownBuild, IsUnknownNode, IsUnknownType, ItemFault, NodeFault};
 
-use crate::ast_line::{AstLine, ItemText, Saying};
+use crate::ast_line::{ItemText, Saying};
 use crate::limits::is_item_word;
 use crate::names_of_lines::{declared_name, note};
 use ck_base::{Names, NoMemory};
 use expr_read::has_unknown;
+use section_frame::Numbered;
 use std::alloc::Global;
 
 /// The first type whose base is neither a family nor a type of a line before.
 pub(crate) fn first_without_base(
     alloc: Global,
-    list: &[AstLine<'_>],
+    list: &[Numbered<Saying<'_>>],
 ) -> Result<Option<u32>, NoMemory>
     requires few { length list.now + 1 < 2 ^ 32 }
     requires grow { Grow (map declared_by list.now) }
@@ -52,7 +53,10 @@ pub(crate) fn is_missing(names: &Names, name: &[u8]) -> bool
 }
 
 /// The first type with an item whose type is none of the four words and no family.
-pub(crate) fn first_without_item_type(families: &Names, list: &[AstLine<'_>]) -> Option<u32>
+pub(crate) fn first_without_item_type(
+    families: &Names,
+    list: &[Numbered<Saying<'_>>],
+) -> Option<u32>
     requires { Grow (map declared_by list.now) }
     ensures { FirstWith (map declared_by list.now) (ItemFault families.now) result }
 {
@@ -103,7 +107,7 @@ fn is_unknown_type(families: &Names, of: &[u8]) -> bool
 pub(crate) fn first_unknown_node(
     nonterminals: &Names,
     families: &Names,
-    list: &[AstLine<'_>],
+    list: &[Numbered<Saying<'_>>],
 ) -> Option<u32>
     requires { Grow (map declared_by list.now) }
     ensures { FirstWith (map declared_by list.now)
@@ -137,7 +141,7 @@ fn is_unknown_node(nonterminals: &Names, families: &Names, says: &Saying<'_>) ->
 pub(crate) fn first_unknown_build(
     labels: &Names,
     types: &Names,
-    list: &[AstLine<'_>],
+    list: &[Numbered<Saying<'_>>],
 ) -> Option<u32>
     requires { Grow (map declared_by list.now) }
     ensures { FirstWith (map declared_by list.now) (BuildFault labels.now types.now) result }

@@ -7,17 +7,18 @@ ghost use Rattle.node_spec.specs.within.AstSeen.{declared_by, saying_seen};
 ghost use Rattle.node_spec.specs.within.AstSteps.{FirstWith};
 ghost use Rattle.node_spec.specs.within.AstTwice.{IsValue, UsedTwice, Uses, UsesTwice};
 
-use crate::ast_line::{AstLine, Saying};
+use crate::ast_line::Saying;
 use cfg_model::{GrammarRule, NamedGrammar, Sym};
 use ck_base::NoMemory;
 use expr_read::dollars_in;
+use section_frame::Numbered;
 use std::alloc::Global;
 
 /// The first BUILD line that uses a nonterminal's value twice.
 pub(crate) fn first_used_twice(
     alloc: Global,
     g: &NamedGrammar,
-    list: &[AstLine<'_>],
+    list: &[Numbered<Saying<'_>>],
 ) -> Result<Option<u32>, NoMemory>
     requires { Grow (map declared_by list.now) }
     ensures { IfOk result (FirstWith (map declared_by list.now) (UsesTwice g.now)) }

@@ -11,19 +11,20 @@ ghost use Rattle.node_spec.specs.within.AstSeen.{declared_by, item_seen, row_see
 ghost use Rattle.node_spec.specs.within.AstSteps.{AreFamilies, FirstWith, IsOfWrongSide};
 ghost use Rattle.node_spec.specs.within.AstWalks.{HasWrongItem, IsOfOther, IsWrongItem, IsWrongLine, JoinsAt, SomeJoins, row_number, target_of};
 
-use crate::ast_line::{AstLine, ItemText, Saying};
+use crate::ast_line::{ItemText, Saying};
 use crate::families::Families;
 use crate::limits::{is_item_word, types_of_line};
 use crate::only_nonterminal::only_place;
 use crate::rows::TypeRow;
 use cfg_model::{Grammar, GrammarRule, NamedGrammar, Sym};
 use ck_base::{Names, NoMemory};
+use section_frame::Numbered;
 use std::alloc::Global;
 
 /// The first line with an item that is a map or of the other side, or with a nonterminal of a
 /// target family.
 pub(crate) fn first_of_wrong_side(
-    list: &[AstLine<'_>],
+    list: &[Numbered<Saying<'_>>],
     families: &Families,
     rows: &[TypeRow<'_>],
 ) -> Option<u32>
@@ -46,7 +47,7 @@ pub(crate) fn first_of_wrong_side(
 
 /// Whether the line, behind so many types, has an item or a nonterminal of the wrong side.
 fn is_of_wrong_side(
-    line: &AstLine<'_>,
+    line: &Numbered<Saying<'_>>,
     families: &Families,
     rows: &[TypeRow<'_>],
     types: u32,
@@ -121,7 +122,7 @@ pub(crate) fn is_target_family(families: &Families, name: &[u8]) -> bool
 pub(crate) fn joins_families(
     alloc: Global,
     g: &NamedGrammar,
-    list: &[AstLine<'_>],
+    list: &[Numbered<Saying<'_>>],
     node_families: &[u32],
 ) -> Result<bool, NoMemory>
     requires few { length list.now + 1 < 2 ^ 32 }
@@ -152,7 +153,7 @@ fn some_joins(labels: &Names, g: &Grammar, built: &Names, families: &[u32]) -> b
 }
 
 /// The labels of the rules that have a BUILD line.
-fn built_labels(alloc: Global, list: &[AstLine<'_>]) -> Result<Names, NoMemory>
+fn built_labels(alloc: Global, list: &[Numbered<Saying<'_>>]) -> Result<Names, NoMemory>
     requires { length list.now + 1 < 2 ^ 32 }
     ensures { IfOk result (λ names. names ≡ met [] (labels_in (map declared_by list.now))) }
 {
@@ -164,7 +165,7 @@ fn built_labels(alloc: Global, list: &[AstLine<'_>]) -> Result<Names, NoMemory>
 }
 
 /// Adds the label of a BUILD line.
-fn add_label(names: &mut Names, line: &AstLine<'_>) -> Result<(), NoMemory>
+fn add_label(names: &mut Names, line: &Numbered<Saying<'_>>) -> Result<(), NoMemory>
     requires { length names.old + 1 < 2 ^ 32 }
     ensures { OnOk result (names.new ≡ met names.old (label_then (saying_seen line.now.says) [])) }
 {

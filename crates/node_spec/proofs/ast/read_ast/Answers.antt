@@ -1,20 +1,21 @@
 -- The section, its lines, their names, and then what they declare.
-use Rattle.std.proofs.Common.{arith}
+use Rattle.std.proofs.Common.{arith, refl}
 use Rattle.spec_text.proofs.Numbers.{section_grows}
 use Rattle.spec_text.specs.declared.section.Section.TheVariants.{Ast}
-use Rattle.node_spec.proofs.ReadAst.{fault_passed, list_few, list_grows, list_behind, all_declared, adds_few, adds_within, declares, fits}
+use Rattle.node_spec.proofs.ReadAst.{fault_passed, shape_fault, list_few, list_grows, list_behind, all_declared, adds_few, adds_within, declares, fits}
 use Rattle.node_spec.proofs.ast.read_ast.Goals as goal
 
-pub ast_lines-requires : goal.ast_lines-requires
-ast_lines-requires c =
+pub declared_lines-requires : goal.declared_lines-requires
+declared_lines-requires c =
     let is = c.ast_of-section.ensures c.args.spec.now c.requires.read in
-    (is.these.inside, is.lines, section_grows c.args.spec.now Ast is.these is.has)
+    λ k. ((refl, tt), (is.these.inside, is.lines, section_grows c.args.spec.now Ast is.these is.has))
 
 pub returns-in_err-list-clause-fault : goal.returns-in_err-list-clause-fault
 returns-in_err-list-clause-fault c =
     let is = c.ast_of-section.ensures c.args.spec.now c.requires.read in
     fault_passed c.args.spec.now c.args.g.now _ is _ _ c.from_residual.ensures.1
-    (c.in_err-list.ensures.fault c.args.g.now is.these is.lines (section_grows c.args.spec.now Ast is.these is.has))
+    (shape_fault c.args.spec.now c.args.g.now _ is _
+    (c.in_err-list.ensures.fault is.these.inside is.lines (section_grows c.args.spec.now Ast is.these is.has)))
 
 pub declared_names-requires-clause-few : goal.declared_names-requires-clause-few
 declared_names-requires-clause-few c =

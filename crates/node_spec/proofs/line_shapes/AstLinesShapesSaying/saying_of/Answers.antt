@@ -1,7 +1,7 @@
 -- A line has one of five forms.
 use Rattle.node_spec.specs.AstShapes.{family_line, target_line, node_line}
 use Rattle.node_spec.proofs.LineReadings.{type_shape, build_shape, no_shape}
-use Rattle.node_spec.proofs.line_shapes.saying_of.Goals as goal
+use Rattle.node_spec.proofs.line_shapes.AstLinesShapesSaying.saying_of.Goals as goal
 
 pub returns-in-Some : goal.returns-in-Some
 returns-in-Some c = family_line _ _ c.in-Some.ensures
