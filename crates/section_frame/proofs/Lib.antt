@@ -7,6 +7,7 @@ mod FaultExamples
 mod WordExamples
 pub mod KindOrder
 pub mod Passing
+pub mod MetNames
 pub mod Named
 pub mod Shaped
 pub mod Staged

@@ -9,7 +9,7 @@ use Rattle.section_frame.specs.Declares.{Declared}
 use Rattle.section_frame.specs.Parts.{Name}
 use Rattle.section_frame.specs.Read.{Rep, no_part, one_part}
 use Rattle.section_frame.specs.Stages.{FirstOf, of_twice, at_head_or}
-use Rattle.section_frame.specs.Words.{IsAgain, IsMissing, IsPast, ArePast, HasDouble}
+use Rattle.section_frame.specs.Words.{HasAmong, IsAgain, IsMissing, IsUndeclared, IsPast, ArePast, HasDouble}
 
 -- the first line with a name isn't one that has it again, whatever follows
 pub first_is_fresh : {S : Type 0} (name : S → Option (List ℕ)) (d : Declared S) (ds : List (Declared S))
@@ -20,6 +20,14 @@ first_is_fresh name d ds again =
 -- a name among the words isn't missing
 pub known_is_there : (name : List ℕ) → IsMissing (name ∷ []) (name ∷ []) → ⊥
 known_is_there name missing = missing.none missing.used
+
+-- one of the names is enough
+one_of_them : HasAmong (codes "a" ∷ []) (codes "b" ∷ codes "a" ∷ [])
+one_of_them = record { name = codes "a"; used = (1, omega arith, refl); among = (0, omega arith, refl) }
+
+-- what a line itself declares isn't there before it
+not_by_itself : IsUndeclared (λ said. Some said) (record { number = 1; said = codes "a" } ∷ []) 0 (codes "a" ∷ [])
+not_by_itself = record { name = codes "a"; used = (0, omega arith, refl); none = λ there. (let less = there.1 in omega (arith, less)) }
 
 -- as many as the limit are within it, and one more isn't
 pub at_the_limit : {S : Type 0} (d e : Declared S)

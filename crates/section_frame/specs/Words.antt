@@ -32,6 +32,16 @@ pub record IsMissing (words uses : List (List ℕ)) : Type 0 where
   pub used : Contains uses name
   pub none : Contains words name → ⊥
 
+-- a name that is used is one of the words
+pub record HasAmong (words uses : List (List ℕ)) : Type 0 where
+  pub name : List ℕ
+  pub used : Contains uses name
+  pub among : Contains words name
+
+-- a name that is used, no line before the place has declared
+abbrev pub IsUndeclared : {S : Type 0} → (S → Option (List ℕ)) → List (Declared S) → ℕ → List (List ℕ) → Type 0
+IsUndeclared name ds i uses = IsMissing (names_by name (take i ds)) uses
+
 -- a name is there twice
 pub record HasDouble (names : List (List ℕ)) : Type 0 where
   pub name : List ℕ

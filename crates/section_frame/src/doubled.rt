@@ -32,7 +32,7 @@ impl<T, U: Uses<T>> LineTest<T> for HasTwo<U> {
 }
 
 /// Whether the line uses a name twice.
-fn repeats<T, U: Uses<T>>(alloc: Global, uses: &U, says: &T) -> Result<bool, NoMemory>
+pub fn repeats<T, U: Uses<T>>(alloc: Global, uses: &U, says: &T) -> Result<bool, NoMemory>
     requires { length (U.uses (U.seen says.now)) + 1 < 2 ^ 32 }
     ensures { IfOk result (λ found. IsTrue found ↔ HasDouble (U.uses (U.seen says.now))) }
 {

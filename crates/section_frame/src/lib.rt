@@ -9,6 +9,7 @@
 //! | one pass, for any test; two tests in one pass | `specs/Passes.antt`; `src/pass.rt`, `both.rt` |
 //! | what a test finds: the words for faults | `specs/Words.antt` |
 //! | a name that is there already, is reserved, isn't there | `src/again.rt`, `among.rt`, `missing.rt` |
+//! | a name that is one of some words, that no line before has | `src/used.rt`, `src/undeclared.rt` |
 //! | a name twice in one line; a count that is passed | `src/doubled.rt`, `src/counted.rt` |
 //! | a section's first fault, in the order of kinds | `specs/FirstFault.antt` |
 //! | the first of the kinds with a line, and at the head | `specs/Stages.antt`; `src/kinds.rt` |
@@ -27,12 +28,14 @@ mod part;
 mod pass;
 mod reading;
 mod shapes;
+mod undeclared;
+mod used;
 
 pub use again::{Again, Naming};
 pub use among::{Among, AnyOf, WordSet, Words};
 pub use both::Both;
 pub use counted::{Adding, Counted, CountedNames};
-pub use doubled::HasTwo;
+pub use doubled::{HasTwo, repeats};
 pub use gathering::{gather, gathered};
 pub use kinds::{stages, with_head};
 pub use missing::{Missing, Uses};
@@ -40,3 +43,5 @@ pub use part::{after_sign, after_word, is_sign, is_word, name_of, names_of, numb
 pub use pass::{LineTest, Numbered, first_line};
 pub use reading::{ReadPart, listed, optional, repeated};
 pub use shapes::{Shapes, declared_lines};
+pub use undeclared::Undeclared;
+pub use used::{Called, UsesAny};

@@ -47,7 +47,7 @@ impl<T, W: WordSet, U: Uses<T>> LineTest<T> for Missing<W, U> {
 }
 
 /// Whether a name that the line uses is none of the words.
-fn lacks<T, W: WordSet, U: Uses<T>>(words: &W, uses: &U, says: &T) -> bool
+pub(crate) fn lacks<T, W: WordSet, U: Uses<T>>(words: &W, uses: &U, says: &T) -> bool
     ensures { IsTrue result ↔ IsMissing (W.words words.now) (U.uses (U.seen says.now)) }
 {
     for place in 0..uses.count(says) {
