@@ -1,12 +1,12 @@
 -- A made node of its type in a scene is a tree that conforms to the types.
-use Rattle.std.proofs.Common.{◌≡◌, ℕ, ◌<◌, pos, length, List, [], ◌∷◌, map, refl, sym, ap, ◌∙◌, subst}
+use Rattle.std.proofs.Common.{◌≡◌, ℕ, ◌<◌, pos, length, List, [], ◌∷◌, map, refl, sym, subst}
 use Rattle.value_store.specs.MadeTrees.{MadeTree, MadeTrees, made, no_trees, and_trees, type_of}
 use Rattle.value_store.specs.declared.value.Value.{Value}
 use Rattle.value_store.specs.declared.value.Value.TheVariants as value
 use Rattle.value_store.specs.declared.value.ValType.{ValType}
 use Rattle.value_store.specs.declared.value.ValType.TheVariants as ty
 use Rattle.ast_types.specs.Items.{child_families, field_types, child_then, field_then}
-use Rattle.ast_types.specs.TypeTable.{TypeTable, type_at}
+use Rattle.ast_types.specs.TypeTable.{type_at}
 use Rattle.ast_types.specs.declared.item.Item.{Item}
 use Rattle.expr_lang.specs.PureValues.{PureValue, PureValues, node, no_pure, and_pure}
 use Rattle.expr_lang.specs.PureOf.{pure_field, pure_fields, pure_trees, pure_tree}

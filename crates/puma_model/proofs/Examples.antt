@@ -1,20 +1,20 @@
 -- The definitions on cases where wrong readings differ.
-use Rattle.std.proofs.Common.{◌≡◌, ℕ, zero, suc, pos, ◌+◌, ◌<◌, Bool, true, false, List, [], ◌∷◌, ◌++◌, length, Option, Some, None, ◌⊎◌, inl, inr, refl, sym, ap, ◌∙◌, subst, arith}
+use Rattle.std.proofs.Common.{◌≡◌, ℕ, zero, suc, pos, ◌+◌, ◌<◌, Bool, true, false, List, [], ◌∷◌, length, Some, None, ◌⊎◌, inl, inr, refl, sym, ap, ◌∙◌, subst, arith}
 use Rattle.std.specs.Prelude.{slice_get}
 use Rattle.value_store.specs.declared.value.ValType.{ValType}
 use Rattle.value_store.specs.declared.value.ValType.TheVariants as ty
-use Rattle.ast_types.specs.TypeTable.{TypeTable, NodeType, Family, IsA, itself, extends, type_at}
+use Rattle.ast_types.specs.TypeTable.{TypeTable, NodeType, IsA, itself, extends, type_at}
 use Rattle.ast_types.specs.declared.item.Item.{Item}
-use Rattle.expr_lang.specs.Expression.{Expression, number, truth, var, binary, make, no_expressions, and_expression}
+use Rattle.expr_lang.specs.Expression.{Expression, number, var, binary, no_expressions, and_expression}
 use Rattle.expr_lang.specs.declared.expr.Op.TheVariants as op
-use Rattle.expr_lang.specs.PureValues.{PureValue, PureValues, int, bool, source, node, no_pure, and_pure}
+use Rattle.expr_lang.specs.PureValues.{PureValue, int, bool, source, node, no_pure, and_pure}
 use Rattle.puma_model.specs.PurePatterns.{PurePatterns, variable, int_literal, tree, no_patterns, and_pattern}
-use Rattle.puma_model.specs.Scene.{Scene, Seen, seen, item_types, parts_of}
-use Rattle.puma_model.specs.Matches.{Matches, variable_matches, any_matches, int_matches, tree_matches, MatchAll, none_match, and_matches}
+use Rattle.puma_model.specs.Scene.{Scene, Seen, item_types, parts_of}
+use Rattle.puma_model.specs.Matches.{Matches, variable_matches, tree_matches, MatchAll, none_match, and_matches}
 use Rattle.puma_model.specs.Rules.{PureRule, PureRoutine, PureClause, routine_in}
 use Rattle.puma_model.specs.TypedRules.{Kinds, RestFits, let_fits, when_fits, RuleFits}
 use Rattle.puma_model.proofs.MatchSteps.{tree_parts}
-use Rattle.puma_model.specs.Comes.{Program, Reply, a_value, no_rule, IsUsed, succeeded, failed, stopped, Comes, called, Tries, no_rule_left, not_used, used, Finishes, answers, goes_on, stops, Runs, no_clause_left, called_first, After, binds, holds, fails, passes_on, with_reads, reads_left}
+use Rattle.puma_model.specs.Comes.{Program, a_value, no_rule, IsUsed, succeeded, failed, stopped, Comes, called, no_rule_left, used, answers, goes_on, stops, no_clause_left, called_first, fails, passes_on, with_reads, reads_left}
 use Rattle.puma_model.specs.declared.rules.Read.{Read}
 
 -- type 1 extends type 0, which has one item, by another one

@@ -1,5 +1,5 @@
 -- What is seen of a node: its children and fields are of the types of its items, and so are its parts at the items of a base.
-use Rattle.std.proofs.Common.{◌≡◌, ℕ, ℤ, pos, ◌<◌, ◌≤◌, ◌+◌, zero, suc, Bool, true, false, not, List, [], ◌∷◌, ◌++◌, length, map, drop, take, Option, Some, None, refl, sym, ap, ◌∙◌, subst, arith, append-nil, append_assoc, add-one}
+use Rattle.std.proofs.Common.{◌≡◌, ℕ, ℤ, pos, ◌<◌, ◌≤◌, ◌+◌, zero, suc, Bool, true, false, List, [], ◌∷◌, ◌++◌, length, map, Option, Some, refl, sym, ap, ◌∙◌, subst, arith, append-nil, append_assoc, add-one}
 use Rattle.std.specs.Prelude.{slice_get}
 use Rattle.std.proofs.lemmas.Option.{slice_get_within}
 use Rattle.value_store.specs.Cells.{Cell, IsMade, tree_at}
@@ -12,13 +12,13 @@ use Rattle.ast_types.specs.Items.{child_families, field_types, child_then, field
 use Rattle.ast_types.specs.TypeTable.{TypeTable, type_at, IsA, itself, extends, IsSound}
 use Rattle.ast_types.specs.declared.item.Item.{Item}
 use Rattle.expr_lang.specs.OfType.{IsOf, is_int, is_bool, is_text, is_source, is_made}
-use Rattle.expr_lang.specs.PureValues.{PureValue, PureValues, int, bool, text, map_of, token, source, node, no_pure, and_pure}
+use Rattle.expr_lang.specs.PureValues.{PureValue, PureValues, int, bool, text, source, node, no_pure, and_pure}
 use Rattle.expr_lang.specs.PureOf.{pure_of, pure_field, pure_fields, pure_trees, pure_tree}
 use Rattle.value_store.specs.PlainTypes.{IsPlain, plain_int, plain_bool, plain_text}
 use Rattle.tree_store.specs.Conforms.{IsOfKind}
 use Rattle.tree_store.specs.Conforms as conforms
 use Rattle.tree_store.specs.Fitting.{as_field}
-use Rattle.tree_store.specs.Forest.{Node, node_at, IsForest}
+use Rattle.tree_store.specs.Forest.{node_at}
 use Rattle.puma_model.specs.Scene.{Scene, Seen, seen, sources_of, item_types, parts_of}
 use Rattle.puma_model.specs.Typed as typed
 use Rattle.puma_model.specs.Typed.{IsOfType, typed_int, typed_bool, typed_text, typed_map, typed_source, typed_node, ItemsTyped, none_typed, child_typed, field_typed, AreTyped, no_typed, and_typed, IsIn}

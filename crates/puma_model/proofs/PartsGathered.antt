@@ -1,13 +1,11 @@
 -- Parts of a node read one after the other.
-use Rattle.std.proofs.Common.{◌≡◌, ℕ, ◌<◌, ◌≤◌, ◌+◌, zero, suc, Bool, true, false, not, List, [], ◌∷◌, ◌++◌, length, map, drop, take, set, Option, Some, None, refl, sym, ap, ◌∙◌, subst, arith, append-nil, append_assoc, add-one, drop_of_length-le}
+use Rattle.std.proofs.Common.{◌≡◌, ℕ, ◌<◌, ◌≤◌, ◌+◌, zero, suc, Bool, true, false, not, List, [], ◌∷◌, ◌++◌, length, map, drop, take, set, Some, refl, sym, ap, ◌∙◌, subst, arith, append-nil, append_assoc, add-one, drop_of_length-le}
 use Rattle.std.specs.Prelude.{slice_get}
 use Rattle.std.proofs.lemmas.List.{take_more_set}
-use Rattle.std.proofs.lemmas.Option.{slice_get_within}
 use Rattle.value_store.specs.Cells.{Cell}
 use Rattle.value_store.specs.declared.value.Value.{Value}
 use Rattle.value_store.specs.declared.value.ValType.{ValType}
-use Rattle.expr_lang.specs.PureOf.{pure_of}
-use Rattle.expr_lang.specs.PureValues.{PureValue, PureValues, and_pure}
+use Rattle.expr_lang.specs.PureValues.{PureValue, PureValues}
 use Rattle.ast_types.specs.TypeTable.{IsA, TypeTable, type_at}
 use Rattle.ast_types.specs.declared.item.Item.{Item}
 use Rattle.puma_model.specs.Found.{IsScene}

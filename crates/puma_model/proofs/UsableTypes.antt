@@ -1,11 +1,11 @@
 -- What usable types give: children are of their type's side, items are few, and makers of the target side make nodes.
-use Rattle.std.proofs.Common.{◌≡◌, ℕ, ◌+◌, ◌<◌, ◌≤◌, zero, suc, Bool, true, false, not, List, [], ◌∷◌, length, map, Some, None, refl, sym, ap, ◌∙◌, subst, arith, eqb-true}
+use Rattle.std.proofs.Common.{◌≡◌, ℕ, ◌+◌, ◌<◌, ◌≤◌, zero, suc, Bool, true, false, not, List, [], ◌∷◌, length, map, Some, refl, sym, ap, ◌∙◌, subst, arith, eqb-true}
 use Rattle.std.specs.Prelude.{All, Contains, slice_get, nat_eq, if◌then◌else◌}
 use Rattle.std.proofs.lemmas.List.Elements.{All-head, All-tail}
 use Rattle.value_store.specs.PlainTypes.{IsPlain, plain_int, plain_bool, plain_text}
 use Rattle.value_store.specs.declared.value.ValType.{ValType}
 use Rattle.value_store.specs.declared.value.ValType.TheVariants as ty
-use Rattle.ast_types.specs.FitTypes.{HasFitItems, AreTypes}
+use Rattle.ast_types.specs.FitTypes.{AreTypes}
 use Rattle.ast_types.specs.Items.{child_families, field_types, child_then, field_then}
 use Rattle.ast_types.specs.TypeTable.{TypeTable, type_at, family_at}
 use Rattle.ast_types.specs.declared.item.Item.{Item}

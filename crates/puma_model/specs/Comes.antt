@@ -1,7 +1,7 @@
 -- What a call of a routine comes to, and in how many calls.
 use Rattle.std.specs.Prelude.{◌≡◌, ℕ, ◌+◌, Bool, true, false, Option, Some, None, List, [], ◌∷◌, ◌++◌, length, nat_lt, if◌then◌else◌}
 use Rattle.expr_lang.specs.Expression.{Expression, Expressions}
-use Rattle.expr_lang.specs.PureValues.{PureValue, int, bool, text, map_of, token, source, node, bool_in, nth}
+use Rattle.expr_lang.specs.PureValues.{PureValue, source, bool_in, nth}
 use Rattle.expr_lang.specs.ValueOf.{no_tokens, value_of, values_of}
 use Rattle.puma_model.specs.Scene.{Scene}
 use Rattle.puma_model.specs.Matches.{MatchAll}

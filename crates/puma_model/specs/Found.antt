@@ -1,5 +1,5 @@
 -- What a matcher needs, and what it finds.
-use Rattle.std.specs.Prelude.{◌≡◌, ℕ, ◌+◌, ◌<◌, ◌≤◌, ◌^◌, List, [], ◌∷◌, ◌++◌, length, take, map, Option, Some, None, slice_get, pos}
+use Rattle.std.specs.Prelude.{◌≡◌, ℕ, ◌<◌, ◌≤◌, ◌^◌, List, [], length, take, map, Option, Some, None, slice_get}
 use Rattle.value_store.specs.Cells.{Cell}
 use Rattle.value_store.specs.declared.value.Value.{Value}
 use Rattle.value_store.specs.declared.value.ValType.{ValType}
@@ -7,7 +7,7 @@ use Rattle.ast_types.specs.FitTypes.{AreTypes}
 use Rattle.expr_lang.specs.PureValues.{PureValue}
 use Rattle.tree_store.specs.Conforms.{Conforms}
 use Rattle.tree_store.specs.Forest.{IsForest}
-use Rattle.puma_model.specs.PurePatterns.{PurePatterns, no_patterns, variable_count_all, pure_patterns}
+use Rattle.puma_model.specs.PurePatterns.{PurePatterns, variable_count_all, pure_patterns}
 use Rattle.puma_model.specs.Scene.{Scene}
 use Rattle.puma_model.specs.Matches.{MatchAll}
 use Rattle.puma_model.specs.Typed.{AreIn, pures}

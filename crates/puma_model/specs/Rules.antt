@@ -4,7 +4,6 @@ use Rattle.value_store.specs.declared.value.ValType.{ValType}
 use Rattle.value_store.specs.declared.value.ValType.TheVariants as ty
 use Rattle.expr_lang.specs.Expression.{Expression, Expressions, number}
 use Rattle.expr_lang.specs.Meaning.{meaning, expressions_of}
-use Rattle.expr_lang.specs.declared.expr.Expr.{Expr}
 use Rattle.puma_model.specs.PurePatterns.{PurePatterns, no_patterns, pure_patterns}
 use Rattle.puma_model.specs.declared.rules.Clause.{Clause}
 use Rattle.puma_model.specs.declared.rules.Clause.TheVariants as clause

@@ -1,5 +1,5 @@
 -- What is read of a node: a child, a field, the parts at the items of a type.
-use Rattle.std.specs.Prelude.{◌≡◌, ℕ, ◌+◌, zero, suc, Bool, true, false, List, Option, Some, None, take}
+use Rattle.std.specs.Prelude.{◌≡◌, ℕ, ◌+◌, zero, suc, Bool, true, false, List, Option, Some}
 use Rattle.value_store.specs.Cells.{Cell}
 use Rattle.value_store.specs.declared.value.Value.{Value}
 use Rattle.value_store.specs.declared.value.ValType.{ValType}

@@ -1,11 +1,11 @@
 -- A pattern matches by its form; patterns one by one.
-use Rattle.std.proofs.Common.{arith, rules, refl, sym, subst, ap, ◌∙◌}
+use Rattle.std.proofs.Common.{arith, rules, refl, subst}
 use Rattle.value_store.specs.Cells.{cells_of}
 use Rattle.puma_model.specs.Found.{scene_of}
 use Rattle.puma_model.specs.PurePatterns.{pattern}
 use Rattle.puma_model.specs.within.Matching.{OneOrNot}
 use Rattle.puma_model.proofs.PatternSize.{size_at, parts_smaller}
-use Rattle.puma_model.proofs.MatchCode.{code_any, code_bind, code_int, code_int_not, code_bool, code_bool_not, code_text, code_text_not, code_not_seen, code_not_kind, code_tree, code_there, code_placed, code_room, code_own_room, own_there}
+use Rattle.puma_model.proofs.MatchCode.{code_any, code_bind, code_int, code_int_not, code_bool, code_bool_not, code_text, code_text_not, code_not_seen, code_not_kind, code_tree, code_there, code_placed, code_room, own_there}
 use Rattle.puma_model.proofs.MatchSteps.{match_begin, match_on, match_not, match_end, placed_here, room_here}
 use Rattle.puma_model.proofs.matching.+matching.Goals as goal
 

@@ -1,5 +1,5 @@
 -- The parts of the node are read one after the other.
-use Rattle.std.proofs.Common.{arith, refl, sym, subst, ap, ◌∙◌, take, length-set, ◌≡◌, length, rules}
+use Rattle.std.proofs.Common.{arith, subst, ap, ◌∙◌, take, length-set, ◌≡◌, length, rules}
 use Rattle.value_store.specs.Cells.{cells_of}
 use Rattle.puma_model.specs.Found.{scene_of}
 use Rattle.puma_model.specs.within.Gathering.{AreParts}
