@@ -1,6 +1,6 @@
 // Whether a plan fits an attribution. It takes no memory.
-ghost use Rattle.std.specs.Prelude.{◌≡◌, ℕ, ◌<◌, ◌≤◌, ◌-◌, ◌↔◌, length, map, IsTrue, Some, slice_get, slice_index_or, [], Contains};
-ghost use Rattle.ag_model.specs.Attribution.{grammar_of, equation_of, attribute_rows, kinds_of, kinds_in};
+ghost use Rattle.std.specs.Prelude.{◌≡◌, ℕ, ◌<◌, ◌-◌, ◌↔◌, length, map, IsTrue, Some, slice_get, slice_index_or, [], Contains};
+ghost use Rattle.ag_model.specs.Attribution.{grammar_of, equation_of, attribute_rows, kinds_of};
 ghost use Rattle.ag_model.specs.Plans.{sets_of, steps_of, counted, is_leave, is_visit, visit_count, PlanFits, SetsFit, lists};
 ghost use Rattle.ag_model.specs.declared.plan.PlanStep.TheVariants.{Evaluate, Visit, Leave};
 ghost use Rattle.ag_model.specs.within.TypePlans.{IsOfType, own_sets, below, child_total, own_equations, own_steps, MayStep, MayUse, CameByVisit, FitsAt, g_of};

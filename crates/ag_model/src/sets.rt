@@ -1,5 +1,5 @@
 // Whether the sets of a family fit.
-ghost use Rattle.std.specs.Prelude.{◌≡◌, ℕ, ◌<◌, ◌≤◌, ◌↔◌, List, [], length, map, IsTrue, Some, slice_get, slice_index_or, Contains};
+ghost use Rattle.std.specs.Prelude.{◌≡◌, ℕ, ◌<◌, ◌≤◌, ◌↔◌, [], length, IsTrue, Some, slice_get, slice_index_or, Contains};
 ghost use Rattle.ag_model.specs.Attribution.{kinds_in};
 ghost use Rattle.ag_model.specs.Parts.{is_odd};
 ghost use Rattle.ag_model.specs.Plans.{SetsFit, lists};

@@ -1,7 +1,7 @@
 // Single steps of a plan: what they evaluate, visit and give.
-ghost use Rattle.std.specs.Prelude.{◌≡◌, ℕ, ◌+◌, ◌-◌, ◌*◌, ◌<◌, ◌≤◌, ◌^◌, ◌↔◌, ◌⊎◌, [], length, map, IsTrue, Some, slice_get, slice_index_or, Contains};
+ghost use Rattle.std.specs.Prelude.{◌≡◌, ℕ, ◌+◌, ◌-◌, ◌*◌, ◌<◌, ◌≤◌, ◌^◌, ◌↔◌, [], length, map, IsTrue, Some, slice_get, Contains};
 ghost use Rattle.ag_model.specs.Attribution.{equation_of};
-ghost use Rattle.ag_model.specs.Plans.{counted, one_if, is_leave, is_visit, visit_count, InSet, TakesIn, Gives, Evaluates, EvaluatedBefore, lists};
+ghost use Rattle.ag_model.specs.Plans.{counted, one_if, is_leave, is_visit, visit_count, TakesIn, Gives, Evaluates, EvaluatedBefore, lists};
 ghost use Rattle.ag_model.specs.within.StepFits.{place_in};
 ghost use Rattle.ag_model.specs.declared.attribution.Place.TheVariants.{Own, Child};
 ghost use Rattle.ag_model.specs.declared.plan.PlanStep.TheVariants.{Evaluate, Visit, Leave};

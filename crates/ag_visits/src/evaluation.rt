@@ -3,14 +3,14 @@ ghost use Rattle.std.specs.Prelude.{◌≡◌, ℕ, ◌+◌, ◌<◌, ◌++◌, 
 ghost use Rattle.value_store.specs.Cells.{cells_of};
 ghost use Rattle.ast_types.specs.Items.{field_types};
 ghost use Rattle.ast_types.specs.TypeTable.{type_at};
-ghost use Rattle.expr_lang.specs.Evaluated.{Ready, KeepsCells};
+ghost use Rattle.expr_lang.specs.Evaluated.{KeepsCells};
 ghost use Rattle.expr_lang.specs.Meaning.{meaning};
 ghost use Rattle.tree_store.specs.Forest.{node_at};
-ghost use Rattle.ag_model.specs.Attribution.{grammar_of, equations_of, equation_of, equation_rows, PureEquation, IsEquation};
+ghost use Rattle.ag_model.specs.Attribution.{grammar_of, equation_of, equation_rows};
 ghost use Rattle.ag_model.specs.Solution.{node_of, attribute_of, expression_at, expressions_of};
 ghost use Rattle.ag_model.specs.ValueTable.{value_in, SetsValue};
 ghost use Rattle.ag_visits.specs.within.OfTree.{env_of};
-ghost use Rattle.ag_visits.specs.within.Walks.{IsThere, Evaluates};
+ghost use Rattle.ag_visits.specs.within.Walks.{IsThere, CanEvaluate, Evaluates};
 
 use ag_model::{Attribution, Equation, Place, Values};
 use ast_types::Types;
@@ -115,23 +115,9 @@ pub(crate) fn evaluate(
     e: u32,
     env: &mut Vec<Value>,
 ) -> Result<(), NoMemory>
-    requires node { node < length tree.now }
-    requires ty { (node_at tree.now node).ty < length types.now.types }
-    requires equated { (node_at tree.now node).ty < length (equation_rows a.now) }
-    requires equation { e < length (equations_of (grammar_of types.now a.now) (node_at tree.now node).ty) }
-    requires fields { length (node_at tree.now node).fields
-        ≡ length (field_types (type_at types.now.types (node_at tree.now node).ty).items) }
-    requires uses { (q : PureEquation) (u : _)
-        → IsEquation (grammar_of types.now a.now) (node_at tree.now node).ty e q
-        → Contains q.uses u → IsThere tree.now values.old node u }
-    requires target { (q : PureEquation)
-        → IsEquation (grammar_of types.now a.now) (node_at tree.now node).ty e q
-        → IsThere tree.now values.old node q.target }
-    requires ready { (q : PureEquation)
-        → IsEquation (grammar_of types.now a.now) (node_at tree.now node).ty e q
-        → Ready (cells_of cells.old.units) (env_of tree.now values.old node q.uses)
-        (expression_at (expressions_of texts.now.source.now texts.now.literals.now a.now)
-        (node_at tree.now node).ty e) }
+    requires { CanEvaluate (grammar_of types.now a.now)
+        (expressions_of texts.now.source.now texts.now.literals.now a.now) tree.now
+        (cells_of cells.old.units) values.old node e }
     ensures ok { OnOk result (Evaluates texts.now.source.now texts.now.literals.now
         (grammar_of types.now a.now)
         (expressions_of texts.now.source.now texts.now.literals.now a.now) tree.now node e

@@ -1,15 +1,13 @@
 // Turns: one step of the node that is visited.
-ghost use Rattle.std.specs.Prelude.{◌≡◌, ℕ, ◌+◌, ◌<◌, ◌^◌, OnOk, length, slice_get, Some, Contains};
+ghost use Rattle.std.specs.Prelude.{◌≡◌, ℕ, ◌+◌, ◌<◌, ◌^◌, OnOk, length};
 ghost use Rattle.value_store.specs.Cells.{cells_of};
-ghost use Rattle.ast_types.specs.Items.{field_types};
-ghost use Rattle.ast_types.specs.TypeTable.{type_at};
-ghost use Rattle.expr_lang.specs.Evaluated.{Ready, KeepsCells};
+ghost use Rattle.expr_lang.specs.Evaluated.{KeepsCells};
 ghost use Rattle.tree_store.specs.Forest.{node_at, children_at, IsChild};
-ghost use Rattle.ag_model.specs.Attribution.{grammar_of, equations_of, equation_rows, PureEquation, IsEquation};
-ghost use Rattle.ag_model.specs.Solution.{expression_at, expressions_of};
+ghost use Rattle.ag_model.specs.Attribution.{grammar_of};
+ghost use Rattle.ag_model.specs.Solution.{expressions_of};
 ghost use Rattle.ag_model.specs.Typed.{IsTyped};
-ghost use Rattle.ag_visits.specs.within.OfTree.{env_of, steps_at, IsReady};
-ghost use Rattle.ag_visits.specs.within.Walks.{position_of, Advances, LeavesTo, IsThere, EvaluatesIn, IsRunning, Turns};
+ghost use Rattle.ag_visits.specs.within.OfTree.{steps_at, IsReady};
+ghost use Rattle.ag_visits.specs.within.Walks.{position_of, Advances, LeavesTo, CanEvaluate, EvaluatesIn, IsRunning, Turns};
 
 use crate::evaluation::evaluate;
 use crate::walk::{Walk, advance, node_above, step_of};
@@ -56,26 +54,11 @@ fn evaluate_here(
     e: u32,
     env: &mut Vec<Value>,
 ) -> Result<(), NoMemory>
-    requires node { walk.old.current < length tree.now }
     requires positions { length walk.old.positions.items ≡ length tree.now }
     requires small { position_of walk.old walk.old.current + 1 < 2 ^ 64 }
-    requires ty { (node_at tree.now walk.old.current).ty < length types.now.types }
-    requires equated { (node_at tree.now walk.old.current).ty < length (equation_rows a.now) }
-    requires equation { e < length (equations_of (grammar_of types.now a.now)
-        (node_at tree.now walk.old.current).ty) }
-    requires fields { length (node_at tree.now walk.old.current).fields ≡ length (field_types
-        (type_at types.now.types (node_at tree.now walk.old.current).ty).items) }
-    requires uses { (q : PureEquation) (u : _) → IsEquation (grammar_of types.now a.now)
-        (node_at tree.now walk.old.current).ty e q → Contains q.uses u
-        → IsThere tree.now walk.old.values walk.old.current u }
-    requires target { (q : PureEquation) → IsEquation (grammar_of types.now a.now)
-        (node_at tree.now walk.old.current).ty e q
-        → IsThere tree.now walk.old.values walk.old.current q.target }
-    requires ready { (q : PureEquation) → IsEquation (grammar_of types.now a.now)
-        (node_at tree.now walk.old.current).ty e q
-        → Ready (cells_of cells.old.units) (env_of tree.now walk.old.values walk.old.current q.uses)
-        (expression_at (expressions_of texts.now.source.now texts.now.literals.now a.now)
-        (node_at tree.now walk.old.current).ty e) }
+    requires can { CanEvaluate (grammar_of types.now a.now)
+        (expressions_of texts.now.source.now texts.now.literals.now a.now) tree.now
+        (cells_of cells.old.units) walk.old.values walk.old.current e }
     ensures ok { OnOk result (EvaluatesIn texts.now.source.now texts.now.literals.now
         (grammar_of types.now a.now)
         (expressions_of texts.now.source.now texts.now.literals.now a.now) tree.now e

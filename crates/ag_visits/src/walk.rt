@@ -1,7 +1,5 @@
 // The visits so far, and the small steps of them.
-ghost use Rattle.std.specs.Prelude.{◌≡◌, ℕ, ◌+◌, ◌<◌, ◌≤◌, ◌^◌, IfOk, length, slice_get, slice_index, Some, pos};
-ghost use Rattle.ag_model.specs.Attribution.{attribute_rows};
-ghost use Rattle.ag_model.specs.ValueTable.{value_in};
+ghost use Rattle.std.specs.Prelude.{◌≡◌, ℕ, ◌+◌, ◌<◌, ◌≤◌, ◌^◌, IfOk, length, slice_get, Some};
 ghost use Rattle.ag_visits.specs.within.OfTree.{steps_at};
 ghost use Rattle.ag_visits.specs.within.Walks.{Begins, Advances, LeavesTo, position_of};
 ghost use Rattle.tree_store.specs.Forest.{node_at};

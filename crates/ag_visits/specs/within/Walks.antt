@@ -1,14 +1,16 @@
 -- The visits so far, as the program keeps them.
-use Rattle.std.specs.Prelude.{◌≡◌, ℕ, ◌+◌, ◌<◌, pos, List, length, slice_index}
+use Rattle.std.specs.Prelude.{◌≡◌, ℕ, ◌+◌, ◌<◌, pos, List, length, slice_index, Contains}
 use Rattle.value_store.specs.Cells.{Cell}
 use Rattle.value_store.specs.declared.value.Value.{Value}
 use Rattle.value_store.specs.declared.value.Value.TheVariants as value
-use Rattle.expr_lang.specs.Evaluated.{Keeps, Evaluated}
+use Rattle.ast_types.specs.Items.{field_types}
+use Rattle.ast_types.specs.TypeTable.{type_at}
+use Rattle.expr_lang.specs.Evaluated.{Keeps, Evaluated, Ready}
 use Rattle.expr_lang.specs.Expression.{Expression}
 use Rattle.expr_lang.specs.PureValues.{PureValue}
 use Rattle.expr_lang.specs.ValueOf.{no_tokens}
 use Rattle.tree_store.specs.Forest.{Node, node_at, children_at, IsChild}
-use Rattle.ag_model.specs.Attribution.{AttributeGrammar, PureEquation, IsEquation}
+use Rattle.ag_model.specs.Attribution.{AttributeGrammar, PureEquation, IsEquation, equations_of}
 use Rattle.ag_model.specs.Plans.{PurePlan}
 use Rattle.ag_model.specs.Solution.{expression_at, node_of, attribute_of}
 use Rattle.ag_model.specs.ValueTable.{ValueTable, value_in, SetsValue}
@@ -61,6 +63,19 @@ abbrev pub IsThere : List Node → ValueTable → ℕ → Place → Type 0
 IsThere nodes table n (Own a) = (n < table.nodes) × (a < table.width)
 IsThere nodes table n (Child c a) =
     (c < length (children_at nodes n)) × (slice_index (children_at nodes n) c < table.nodes) × (a < table.width)
+
+-- equation e of the node's type may be evaluated: types and equations are there, and what the equation names has its place
+-- in the table and fits its expression
+pub record CanEvaluate (g : AttributeGrammar) (expressions : List (List Expression)) (nodes : List Node) (cells : List Cell) (table : ValueTable) (n e : ℕ) : Type 0 where
+  pub node : n < length nodes
+  pub ty : (node_at nodes n).ty < length g.table.types
+  pub equated : (node_at nodes n).ty < length g.equations
+  pub equation : e < length (equations_of g (node_at nodes n).ty)
+  pub fields : length (node_at nodes n).fields ≡ length (field_types (type_at g.table.types (node_at nodes n).ty).items)
+  pub uses : (q : PureEquation) (u : Place) → IsEquation g (node_at nodes n).ty e q → Contains q.uses u → IsThere nodes table n u
+  pub target : (q : PureEquation) → IsEquation g (node_at nodes n).ty e q → IsThere nodes table n q.target
+  pub ready : (q : PureEquation) → IsEquation g (node_at nodes n).ty e q
+      → Ready cells (env_of nodes table n q.uses) (expression_at expressions (node_at nodes n).ty e)
 
 -- equation e of the node's type was evaluated, and its target has the value; old cells stay
 pub record Evaluates (s l : List ℕ) (g : AttributeGrammar) (expressions : List (List Expression)) (nodes : List Node) (n e : ℕ) (old new : List Cell) (before after : ValueTable) : Type 0 where
