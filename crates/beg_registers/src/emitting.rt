@@ -314,7 +314,8 @@ fn push_variable(
     requires known { IsKnown rules.now i.now }
     requires fits { (rule : CoverRule) → slice_get rules.now.rules.items i.now.rule ≡ Some rule
         → FitsNode tree.now rule.pattern i.now.node }
-    ensures { OnOk result (out.new.items ≡ out.old.items ++ field_bytes texts.now (slice_get (bound_by tree.now
+    ensures { OnOk result (out.new.items ≡ out.old.items ++ field_bytes texts.now
+        (slice_get (bound_by tree.now
         (rule_for (rules_in texts.now rules.now).list (Some i.now)) (Some i.now)) k)) }
 {
     fields.clear();
