@@ -7,8 +7,8 @@ ghost use Rattle.rex_model.specs.Positions.{position_count, has_empty, First, La
 
 use crate::counts::positions;
 use crate::empty_word::has_empty_word;
+use crate::firsts::add_first_if;
 use crate::regex::Regex;
-use crate::sets::add_first_if;
 use ck_base::Bits;
 
 /// Adds the positions that may come directly after position `p`. Says whether a word may end with it.

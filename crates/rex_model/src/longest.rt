@@ -4,8 +4,9 @@ ghost use Rattle.rex_model.specs.within.Longest.{IsLongest};
 ghost use Rattle.rex_model.specs.Meaning.{meaning};
 ghost use Rattle.rex_model.specs.Positions.{position_count};
 
+use crate::firsts::add_first;
 use crate::regex::Regex;
-use crate::sets::{add_first, step};
+use crate::sets::step;
 use ck_base::Bits;
 use std::mem::swap;
 

@@ -8,11 +8,12 @@ ghost use Rattle.rex_model.specs.within.Longest.{IsLongestOrEmpty};
 ghost use Rattle.rex_model.specs.within.Pairs.{IsBestUpTo, IsPairOfRule, better_of, plain_of};
 
 use crate::empty_word::nullable;
+use crate::firsts::add_first;
 use crate::longest::longest;
 use crate::position_sets::PositionSets;
 use crate::regex::Regex;
 use crate::rules::ScanRule;
-use crate::sets::{add_first, step};
+use crate::sets::step;
 use ck_base::Bits;
 use std::mem::swap;
 
