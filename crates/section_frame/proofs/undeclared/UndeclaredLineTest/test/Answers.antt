@@ -4,7 +4,7 @@ use Rattle.ck_base.specs.Numbered.{met}
 use Rattle.spec_text.proofs.Lists.{get_fits, map_get}
 use Rattle.section_frame.specs.Passes.{as_seen}
 use Rattle.section_frame.specs.Words.{IsMissing, name_before, names_by}
-use Rattle.section_frame.proofs.Counting.{names_kept, named}
+use Rattle.section_frame.proofs.Counting.{names_met, names_few, named}
 use Rattle.section_frame.proofs.MetNames.{lacks_met}
 use Rattle.section_frame.proofs.undeclared.UndeclaredLineTest.test.Goals as goal
 
@@ -26,7 +26,9 @@ returns-clause-found g c = λ ds i d keeps at seen.
 
 pub returns-clause-kept : goal.returns-clause-kept
 returns-clause-kept g c = λ ds i d keeps at seen missed.
-    names_kept g.N.Naming.name (map (as_seen g.N.Naming.seen) ds) i (as_seen g.N.Naming.seen d)
-    (map_get (as_seen g.N.Naming.seen) ds i d at) _ _ 0 0 keeps.0
-    (c.in_ok-meet.ensures ∙ ap (λ o. met c.args.self.now.names (name_before o []))
-    (named _ _ c.name_of.ensures ∙ sym (ap (λ t. g.N.Naming.name (g.N.Naming.seen t)) seen))) keeps.1
+    let there = map_get (as_seen g.N.Naming.seen) ds i d at in
+    let is = c.in_ok-meet.ensures ∙ ap (λ o. met c.args.self.now.names (name_before o []))
+    (named _ _ c.name_of.ensures ∙ sym (ap (λ t. g.N.Naming.name (g.N.Naming.seen t)) seen)) in (
+      names_met g.N.Naming.name (map (as_seen g.N.Naming.seen) ds) i (as_seen g.N.Naming.seen d) there _ _ is [] keeps.0,
+      names_few g.N.Naming.name (map (as_seen g.N.Naming.seen) ds) i (as_seen g.N.Naming.seen d) there _ _ is i keeps.1,
+    )
