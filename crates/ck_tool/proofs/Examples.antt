@@ -1,5 +1,5 @@
 -- Words of a command line, tried on cases that are worked by hand.
-use Rattle.std.proofs.Common.{◌≡◌, [], ◌∷◌, codes, refl}
+use Rattle.std.proofs.Common.{◌≡◌, ℕ, List, [], ◌∷◌, codes, refl}
 use Rattle.ck_chain.specs.declared.stage.Stage.TheVariants.{Tokens, Derive, Tree}
 use Rattle.ck_tool.specs.Words.{AreRight, NeedMemory, for_stage, of_stage}
 
